@@ -1,3 +1,4 @@
 pub mod OrderLemmas
 pub mod Writes
 pub mod Marks
+pub mod Spelling
