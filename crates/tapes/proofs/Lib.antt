@@ -2,3 +2,4 @@ pub mod OrderLemmas
 pub mod Writes
 pub mod Marks
 pub mod Spelling
+pub mod OneAnswer

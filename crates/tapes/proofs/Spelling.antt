@@ -1,13 +1,14 @@
 -- What bytes begin with, one number or draw further.
-use Rattle.std.proofs.Common.{◌≡◌, ℕ, suc, zero, ◌+◌, ◌*◌, ◌<◌, ◌≤◌, ◌^◌, List, [], ◌∷◌, ◌++◌, length, get_or, take, drop, refl, sym, ◌∙◌, ap, subst, arith, add-one, lit<}
+use Rattle.std.proofs.Common.{◌≡◌, ℕ, suc, zero, ◌+◌, ◌*◌, ◌<◌, ◌≤◌, ◌^◌, List, [], ◌∷◌, ◌++◌, length, get_or, take, drop, slice_get, Some, refl, sym, ◌∙◌, ap, subst, arith, add-one, lit<}
 use Rattle.std.specs.Int.{w32, to_be_bytes}
 use Rattle.std.proofs.lemmas.List.{append-nil, append_assoc, drop-drop, length_push}
 use Rattle.std.proofs.lemmas.List.Concat.{flat_map-append}
 use Rattle.tapes.specs.declared.draw.Need.{Need}
 use Rattle.tapes.specs.declared.draw.Draw.{Draw}
 use Rattle.tapes.specs.Bytes.{number_bytes, draw_bytes, tape_bytes}
-use Rattle.tapes.specs.Needs.{Meets, FitsNeeds}
-use Rattle.tapes.specs.ReadTape.{Begins}
+use Rattle.tapes.specs.Needs.{Meets, FitsNeeds, width_of}
+use Rattle.tapes.specs.ReadTape.{Begins, IsNoOrderAt}
+use Rattle.tapes.specs.ReadDraw.{BeginsNoOrder}
 
 -- one number more
 pub number_bytes_more : (ns : List ℕ) (n : ℕ) → number_bytes (ns ++ n ∷ []) ≡ number_bytes ns ++ to_be_bytes w32 n
@@ -47,3 +48,23 @@ small_push [] n h s zero = s
 small_push [] n h s (suc k) = lit< tt
 small_push (x ∷ xs) n h s zero = h 0
 small_push (x ∷ xs) n h s (suc k) = small_push xs n (λ i. h (suc i)) s k
+
+-- the need that was read stands at its place
+pub get_from_read : (needs : List Need) (i : ℕ) (need : Need) → i < length needs → need ≡ get_or needs i need → slice_get needs i ≡ Some need
+get_from_read [] i need h e = absurd (omega arith)
+get_from_read (n ∷ ns) zero need h e = ap (λ x. Some x) (sym e)
+get_from_read (n ∷ ns) (suc i) need h e = get_from_read ns i need (omega arith) e
+
+-- numbers that are no order stand for the next draw
+pub no_order_here : (needs : List Need) (bytes : List ℕ) (ds : List Draw) (rest : List ℕ) (need : Need) (d : ℕ)
+    → Begins needs bytes ds rest → length ds ≡ d → slice_get needs d ≡ Some need → BeginsNoOrder need rest → IsNoOrderAt needs bytes d
+no_order_here needs bytes ds rest need d b e g no_order = record {
+  draws = ds;
+  numbers = no_order.numbers;
+  rest = drop (width_of need) rest;
+  begins = subst (λ (x : List ℕ). Begins needs bytes ds x) no_order.spelled b;
+  number = e;
+  count = no_order.count;
+  needed = g ∙ ap (λ x. Some x) no_order.needed;
+  no_order = no_order.no_order;
+}

@@ -1,5 +1,5 @@
 -- What the bytes of a tape read as: the tape, or the first fault in the order of draws.
-use Rattle.std.specs.Prelude.{◌≡◌, ℕ, ◌<◌, ◌≤◌, ◌^◌, ⊤, List, [], ◌++◌, length, take, slice_get, slice_index, Option, Some, Result, Ok, Err}
+use Rattle.std.specs.Prelude.{◌≡◌, ◌⊎◌, ℕ, ◌<◌, ◌≤◌, ◌^◌, ⊤, List, ◌++◌, length, take, slice_get, slice_index, Option, Some, Result, Ok, Err}
 use Rattle.tapes.specs.declared.draw.Need.{Need}
 use Rattle.tapes.specs.declared.draw.Need.TheVariants.{OrderOf}
 use Rattle.tapes.specs.declared.draw.Draw.{Draw}
@@ -58,3 +58,9 @@ ReadsTape needs bytes (Err (Short d)) = IsShortAt needs bytes d
 ReadsTape needs bytes (Err (Long d)) = IsLongAt needs bytes d
 ReadsTape needs bytes (Err (NotOrder d)) = IsNoOrderAt needs bytes d
 ReadsTape needs bytes (Err Memory) = ⊤
+
+-- whatever answer is right for these bytes is this one, unless either is want of memory
+abbrev pub IsOnlyAnswer : List Need → List ℕ → Result (List Draw) TapeFault → Type 0
+IsOnlyAnswer needs bytes answer =
+    (right : Result (List Draw) TapeFault) → ReadsTape needs bytes right
+    → (answer ≡ right) ⊎ ((answer ≡ Err Memory) ⊎ (right ≡ Err Memory))

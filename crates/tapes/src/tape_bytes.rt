@@ -1,7 +1,7 @@
 ghost use Rattle.std.specs.Prelude.{◌≡◌, ◌++◌, Ok, Err, IfOk, OnOk};
 ghost use Rattle.tapes.specs.Bytes.{tape_bytes, number_bytes};
 ghost use Rattle.std.specs.Int.{w64, to_be_bytes};
-ghost use Rattle.tapes.specs.ReadTape.{ReadsTape};
+ghost use Rattle.tapes.specs.ReadTape.{ReadsTape, IsOnlyAnswer};
 ghost use Rattle.tapes.specs.declared.tape_bytes.TapeFault.TheVariants.{Memory};
 
 use crate::draw::{Draw, Need};
@@ -47,6 +47,13 @@ impl<T: Drop> From<AllocFailed<T>> for TapeFault {
 /// The tape that the bytes spell for these needs, or the first fault in the order of draws.
 pub fn read_tape(alloc: Global, bytes: &[u8], needs: &Vec<Need>) -> Result<Tape, TapeFault>
     ensures caused { ReadsTape needs.now.items bytes.now result }
+    ensures exact { IsOnlyAnswer needs.now.items bytes.now result }
+{
+    read_draws(alloc, bytes, needs)
+}
+
+fn read_draws(alloc: Global, bytes: &[u8], needs: &Vec<Need>) -> Result<Tape, TapeFault>
+    ensures { ReadsTape needs.now.items bytes.now result }
 {
     let mut draws = Vec::with_capacity(alloc, needs.len())?;
     let mut rest = bytes;
