@@ -1,0 +1,16 @@
+-- What contracts see of a table.
+use Rattle.std.specs.Prelude.{◌≡◌, ℕ, List, [], ◌∷◌, ◌++◌, length, All}
+use Rattle.words.specs.declared.column.Column.{Column}
+
+-- columns, and rows of words
+pub record Content : Type 0 where
+  pub columns : List Column
+  pub rows : List (List ℕ)
+
+-- one more row behind the others
+abbrev pub with_row : Content → List ℕ → Content
+with_row table row = record { columns = table.columns; rows = table.rows ++ row ∷ [] }
+
+-- each row is as long as the columns
+abbrev pub IsRectangular : Content → Type 0
+IsRectangular table = All (λ row. length row ≡ length table.columns) table.rows

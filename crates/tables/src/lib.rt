@@ -1,0 +1,10 @@
+//! Tables: columns and rows of words, how a file is read as one, and how an answer is written.
+//!
+//! Stands on `words` for the meaning of a field and on the kit's `csv` for records. A table is seen as its
+//! columns and its list of rows, each as long as the columns. The main promise: `read_table` answers
+//! exactly the table that a file's records are under a declaration, or that they are none.
+#![tactic(auto)]
+
+mod table;
+
+pub use table::Table;
