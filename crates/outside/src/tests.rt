@@ -1,0 +1,108 @@
+use crate::{DiskFolder, Folder, FolderFault, MemoryFolder, MemorySink, OutFault, Sink, StdSink};
+use std::test::Fail;
+
+fn named(rt: &HostRuntime, name: &str, bytes: &[u8]) -> Result<(String, Vec<u8>), Fail> {
+    Ok((
+        String::from_str(rt.alloc(), name)?,
+        Vec::from_slice(rt.alloc(), bytes)?,
+    ))
+}
+
+fn is_some_and_equal(found: Option<&Vec<u8>>, wanted: &[u8]) -> bool {
+    found.map_or(false, |bytes| bytes.as_slice() == wanted)
+}
+
+#[test]
+fn a_memory_folder_keeps_the_later_file_and_notes_its_calls(rt: HostRuntime) -> Result<(), Fail> {
+    let files = vec![in rt.alloc();
+        named(&rt, "a", b"old")?,
+        named(&rt, "b", b"two")?,
+        named(&rt, "a", b"new")?,
+    ]?;
+    let failing = vec![in rt.alloc(); 1, 4]?;
+    let mut folder = MemoryFolder::new(rt.alloc(), files, failing)?;
+    let first = folder.read("a").ok();
+    assert!(rt; is_some_and_equal(first.as_ref(), b"new"), "the later file");
+    assert!(rt;
+        folder.read("b").err() == Some(FolderFault::Failed),
+        "call 1 is listed"
+    );
+    assert!(rt;
+        folder.read("c").err() == Some(FolderFault::Failed),
+        "a name that isn't there"
+    );
+    assert!(rt; folder.write("c", b"three").is_ok(), "a new name");
+    assert!(rt;
+        folder.write("a", b"four").err() == Some(FolderFault::Failed),
+        "call 4 is listed"
+    );
+    let third = folder.read("c").ok();
+    assert!(rt;
+        is_some_and_equal(third.as_ref(), b"three"),
+        "what was written"
+    );
+    assert!(rt;
+        is_some_and_equal(folder.file("a"), b"new"),
+        "a failed write changes nothing"
+    );
+    assert!(rt; folder.file("d").is_none(), "no such file");
+    let mut calls = String::new(rt.alloc());
+    for name in folder.calls() {
+        calls.push_str(name.as_str())?;
+    }
+    assert_eq!(rt; calls.as_str(), "abccac");
+    Ok(())
+}
+
+#[test]
+fn a_memory_sink_appends_and_fails_as_listed(rt: HostRuntime) -> Result<(), Fail> {
+    let mut sink = MemorySink::new(rt.alloc(), vec![in rt.alloc(); 1]?);
+    assert!(rt; sink.write(b"one").is_ok(), "write 0");
+    assert!(rt;
+        sink.write(b"two").err() == Some(OutFault::Failed),
+        "write 1 is listed"
+    );
+    assert!(rt; sink.write(b"three").is_ok(), "write 2");
+    assert!(rt;
+        sink.bytes().as_slice() == b"onethree".as_slice(),
+        "a failed write appends nothing"
+    );
+    Ok(())
+}
+
+#[test]
+fn a_disk_folder_gives_back_what_it_wrote(rt: HostRuntime) -> Result<(), Fail> {
+    let name = "conclave_disk_folder_test";
+    let mut folder = DiskFolder::new(&rt);
+    assert!(rt;
+        folder.write(name, b"\x00bytes\xff").is_ok(),
+        "a file is written"
+    );
+    let bytes = folder.read(name).ok();
+    assert!(rt;
+        bytes.as_ref().map_or(
+            false,
+            |bytes| bytes.as_slice() == b"\x00bytes\xff".as_slice()
+        ),
+        "and read again"
+    );
+    assert!(rt;
+        folder.read("no_such_folder/file").err() == Some(FolderFault::Failed),
+        "a missing file"
+    );
+    std::fs::remove_file(&rt, name)?;
+    Ok(())
+}
+
+#[test]
+fn the_standard_streams_take_text(rt: HostRuntime) -> Result<(), Fail> {
+    let mut out = StdSink::out(&rt);
+    assert!(rt; out.write(b"out takes text\n").is_ok(), "out");
+    let mut err = StdSink::err(&rt);
+    assert!(rt; err.write(b"err takes text\n").is_ok(), "err");
+    assert!(rt;
+        err.write(b"\xff").err() == Some(OutFault::Failed),
+        "err takes no other bytes"
+    );
+    Ok(())
+}
