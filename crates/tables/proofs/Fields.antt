@@ -8,7 +8,7 @@ use Rattle.csv.specs.Records.{field_at}
 use Rattle.words.specs.Columns.{kinds_of, names_of}
 use Rattle.words.specs.declared.column.Column.{Column}
 use Rattle.words.specs.declared.column.Kind.{Kind}
-use Rattle.tables.specs.Answer.{Gives, and_then, map_ok}
+use Rattle.tables.specs.Outcome.{Gives, and_then, map_ok}
 use Rattle.tables.specs.File.{field_word, is_header, row_of, words_of}
 use Rattle.tables.specs.declared.fault.TableFault.{TableFault}
 use Rattle.tables.specs.declared.fault.TableFault.TheVariants.{NotTable, Memory}

@@ -6,7 +6,7 @@ use Rattle.std.proofs.lemmas.List.{append-nil, length-map}
 use Rattle.words.specs.Columns.{kinds_of, word_of}
 use Rattle.words.specs.declared.column.Column.{Column}
 use Rattle.words.specs.declared.column.Kind.{Kind}
-use Rattle.tables.specs.Answer.{Gives, and_then, map_ok}
+use Rattle.tables.specs.Outcome.{Gives, and_then, map_ok}
 use Rattle.tables.specs.Content.{Content, with_row}
 use Rattle.tables.specs.File.{at_place, row_of, rows_of, table_under, words_of}
 use Rattle.tables.specs.Records.{BytesReader, IsReading, TakesRecord, unread}

@@ -8,7 +8,7 @@ use Rattle.words.specs.Columns.{kinds_of, names_of, word_of}
 use Rattle.words.specs.declared.column.Column.{Column}
 use Rattle.words.specs.declared.column.Kind.{Kind}
 use Rattle.words.specs.declared.num.ValueFault.{ValueFault}
-use Rattle.tables.specs.Answer.{and_then, map_ok}
+use Rattle.tables.specs.Outcome.{and_then, map_ok}
 use Rattle.tables.specs.Content.{Content}
 use Rattle.tables.specs.declared.fault.TableFault.{TableFault}
 use Rattle.tables.specs.declared.fault.TableFault.TheVariants.{NotTable}

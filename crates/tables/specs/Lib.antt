@@ -1,5 +1,5 @@
 pub mod Content
 pub mod Table
 pub mod Records
-pub mod Answer
+pub mod Outcome
 pub mod File

@@ -4,7 +4,7 @@
 ghost use Rattle.std.specs.Prelude.{◌≡◌, false, nat_eq};
 ghost use Rattle.std.specs.List.{starts_with};
 ghost use Rattle.csv.specs.Reading.{default_config, records};
-ghost use Rattle.tables.specs.Answer.{Gives};
+ghost use Rattle.tables.specs.Outcome.{Gives};
 ghost use Rattle.tables.specs.File.{byte_order_mark, table_in, table_under};
 ghost use Rattle.tables.specs.Records.{IsReading, unread};
 

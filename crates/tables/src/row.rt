@@ -5,7 +5,7 @@ ghost use Rattle.std.specs.Prelude.{◌≡◌, ℕ, [], false, MatchOption};
 ghost use Rattle.std.specs.Str.{bytes_eq};
 ghost use Rattle.csv.specs.Records.{field_at, fields_of};
 ghost use Rattle.words.specs.Columns.{kinds_of, names_of, word_of};
-ghost use Rattle.tables.specs.Answer.{Gives};
+ghost use Rattle.tables.specs.Outcome.{Gives};
 ghost use Rattle.tables.specs.File.{field_word, is_header, row_of};
 
 use crate::TableFault;

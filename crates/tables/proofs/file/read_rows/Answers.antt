@@ -3,7 +3,7 @@ use Rattle.std.specs.Bool.{OnTrue}
 use Rattle.std.proofs.lemmas.Result.{err_from_is_err_and}
 use Rattle.csv.specs.Records.{fields_of}
 use Rattle.words.specs.Columns.{kinds_of}
-use Rattle.tables.specs.Answer.{Gives}
+use Rattle.tables.specs.Outcome.{Gives}
 use Rattle.tables.specs.File.{row_of}
 use Rattle.tables.specs.Records.{unread}
 use Rattle.tables.specs.declared.fault.TableFault.{TableFault}

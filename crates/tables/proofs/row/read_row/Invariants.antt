@@ -1,7 +1,7 @@
 use Rattle.std.proofs.Common.{◌≡◌, ℕ, ◌++◌, drop}
 use Rattle.csv.specs.Records.{fields_of}
 use Rattle.words.specs.Columns.{kinds_of}
-use Rattle.tables.specs.Answer.{map_ok}
+use Rattle.tables.specs.Outcome.{map_ok}
 use Rattle.tables.specs.File.{words_of}
 use Rattle.tables.proofs.row.read_row.Given as goal
 
