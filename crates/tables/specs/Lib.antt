@@ -1,2 +1,5 @@
 pub mod Content
 pub mod Table
+pub mod Records
+pub mod Outcome
+pub mod File

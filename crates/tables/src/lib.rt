@@ -5,6 +5,12 @@
 //! exactly the table that a file's records are under a declaration, or that they are none.
 #![tactic(auto)]
 
+mod fault;
+mod file;
+mod reading;
+mod row;
 mod table;
 
+pub use fault::TableFault;
+pub use file::read_table;
 pub use table::Table;

@@ -1,0 +1,21 @@
+//! Words in lanes: the algebra of xor and and on lists of words, picking by places, three parties
+//! that go round, and a value for each of them.
+//!
+//! Every crate that speaks of masks, shares or orders stands on it, and it stands on none.
+//! `Words` and `Numbers` are vectors that a contract sees as lists. The definitions on lists pad
+//! xor with zeros and cut and to the shorter list, so that nearly all laws hold at any lengths.
+#![tactic(auto)]
+
+mod lane_work;
+mod laws;
+mod listed;
+mod party;
+#[cfg(test)]
+mod tests;
+mod three;
+
+pub use lane_work::{pick_words, shared_and, shared_ands, xor_into, xor_words};
+pub use laws::{lane_laws, party_laws};
+pub use listed::{Listed, Numbers, Words};
+pub use party::Party;
+pub use three::Three;

@@ -1,0 +1,5 @@
+pub mod OrderLemmas
+pub mod Writes
+pub mod Marks
+pub mod Spelling
+pub mod OneAnswer

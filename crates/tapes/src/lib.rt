@@ -1,0 +1,16 @@
+//! Private random choices of a run, recorded: orders, draws, tapes and their bytes.
+#![tactic(auto)]
+
+mod cursor;
+mod draw;
+mod marking;
+mod order;
+mod read_draw;
+mod tape;
+mod tape_bytes;
+
+pub use cursor::Cursor;
+pub use draw::{Draw, Need, Schedule};
+pub use order::Order;
+pub use tape::{Tape, Tapes};
+pub use tape_bytes::TapeFault;
