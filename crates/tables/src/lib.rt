@@ -5,6 +5,8 @@
 //! exactly the table that a file's records are under a declaration, or that they are none.
 #![tactic(auto)]
 
+mod answer;
 mod table;
 
+pub use answer::{answer_text, answers_of_equal_bags};
 pub use table::Table;
