@@ -5,12 +5,14 @@
 //! exactly the table that a file's records are under a declaration, or that they are none.
 #![tactic(auto)]
 
+mod answer;
 mod fault;
 mod file;
 mod reading;
 mod row;
 mod table;
 
+pub use answer::{answer_text, answers_of_equal_bags};
 pub use fault::TableFault;
 pub use file::read_table;
 pub use table::Table;
