@@ -1,6 +1,8 @@
 -- Cutting the parts out of the spelling of a form gives that form.
-use Rattle.std.proofs.Common.{◌≡◌, ℕ, zero, suc, ◌<◌, ◌≤◌, ◌^◌, Bool, true, false, not, ◌&&◌, ◌||◌, List, [], ◌∷◌, ◌++◌, length, drop, Option, Some, None, Result, Ok, Err, refl, ap, sym, ◌∙◌, subst, arith, codes, bytes_eq, nat_le, ◌⊎◌, inl, inr}
+use Rattle.std.proofs.Common.{◌≡◌, ℕ, zero, suc, ◌<◌, ◌≤◌, ◌^◌, Bool, true, false, not, ◌&&◌, ◌||◌, List, [], ◌∷◌, ◌++◌, length, drop, Option, Some, None, Result, Ok, Err, refl, ap, sym, ◌∙◌, subst, arith, codes, bytes_eq, nat_le, ◌⊎◌, inl, inr, lit<}
 use Rattle.std.specs.Fmt.{decimal}
+use Rattle.std.specs.Str.{IsAscii, IsUtf8}
+use Rattle.std.proofs.lemmas.Str.{IsUtf8-from_ascii}
 use Rattle.std.specs.List.{list_all, list_any}
 use Rattle.std.proofs.lemmas.Grind.{common_steps}
 use Rattle.std.proofs.lemmas.Slice.Eq.{bytes_eq-Decides}
@@ -87,8 +89,8 @@ among_is_word : (tested : List ℕ) (names : List (List ℕ)) → list_all (list
 among_is_word tested [] words among = cc
 among_is_word tested (name ∷ names) words among =
     elim (bytes_eq_cases tested name) [
-      inl same ↦ subst IsWord (sym same) (and_left (list_all is_word_byte name) (list_all (list_all is_word_byte) names) words)
-    | inr differs ↦ among_is_word tested names (and_right (list_all is_word_byte name) (list_all (list_all is_word_byte) names) words) (rw differs at among)
+      | inl same ↦ subst IsWord (sym same) (and_left (list_all is_word_byte name) (list_all (list_all is_word_byte) names) words)
+      | inr differs ↦ among_is_word tested names (and_right (list_all is_word_byte name) (list_all (list_all is_word_byte) names) words) (rw differs at among)
     ]
 
 party_is_small : (party : ℕ) → is_party party ≡ true → party < 2 ^ 64
@@ -99,7 +101,7 @@ parts_cut : (relation : List ℕ) (owner rows : ℕ) (columns : List (List ℕ))
     → 1 ≤ length columns → length columns ≤ 32 → IsWord relation → list_all (list_all is_word_byte) columns ≡ true → IsWord f.name → IsWord f.tested
     → owner < 2 ^ 64 → rows < 2 ^ 64 → f.number < 2 ^ 64 → recipient < 2 ^ 64
     → (let r : RelationForm = record { name = relation; owner = owner; rows = rows; columns = columns } in
-       guess (relation_line r (filter_line relation f (output_line f.name recipient))) ≡ Some (record { relation = r; filter = f; recipient = recipient }))
+    guess (relation_line r (filter_line relation f (output_line f.name recipient))) ≡ Some (record { relation = r; filter = f; recipient = recipient }))
 parts_cut relation owner rows [] f recipient some few relation_word words filter tested owner_small rows_small number recipient_small = absurd (omega arith)
 parts_cut relation owner rows (name ∷ names) f recipient some few relation_word words filter tested owner_small rows_small number recipient_small =
     let text : List ℕ = filter_line relation f (output_line f.name recipient) in
@@ -153,8 +155,8 @@ guess_spelled form fitting number =
     let rows : r.rows ≤ 65536 = rows_within r.rows (length r.columns) size in
     let words = are_words r f named in
     parts_cut r.name r.owner r.rows r.columns f form.recipient within.0 within.1 words.relation words.columns words.filter words.tested
-        (party_is_small r.owner (and_left (is_party r.owner) (is_party form.recipient) parties)) (omega arith) number
-        (party_is_small form.recipient (and_right (is_party r.owner) (is_party form.recipient) parties))
+    (party_is_small r.owner (and_left (is_party r.owner) (is_party form.recipient) parties)) (omega arith) number
+    (party_is_small form.recipient (and_right (is_party r.owner) (is_party form.recipient) parties))
 
 -- so a text says at most one form
 pub only_form : (text : List ℕ) (found form : Form) → guess text ≡ Some found → IsFirstForm text form → form ≡ found
@@ -192,3 +194,24 @@ misspelled text found cut differs form first =
     let same : spelled found ≡ text = ap spelled (sym (only_form text found form cut first)) ∙ first.spelling in
     let clash : true ≡ false = sym ((bytes_eq-Decides (spelled found) text).1 same) ∙ differs in
     cc
+
+-- what a form says of sizes and names
+pub declared_within : (text : List ℕ) (form : Form) → IsFirstForm text form → form.relation.rows ≤ 65536
+unfolding fits
+declared_within text form first =
+    let head = and_left (is_party form.relation.owner && is_party form.recipient && is_size form.relation.rows (length form.relation.columns)) (are_names form.relation form.filter) first.fitting in
+    rows_within form.relation.rows (length form.relation.columns) (and_right (is_party form.relation.owner && is_party form.recipient) (is_size form.relation.rows (length form.relation.columns)) head)
+
+word_byte_is_ascii : (byte : ℕ) → is_word_byte byte ≡ true → byte < 128
+word_byte_is_ascii byte word = grind (arith, common_steps)
+
+word_is_ascii : (bytes : List ℕ) → IsWord bytes → IsAscii bytes
+word_is_ascii [] word i = lit< tt
+word_is_ascii (byte ∷ bytes) word zero = word_byte_is_ascii byte (and_left (is_word_byte byte) (list_all is_word_byte bytes) word)
+word_is_ascii (byte ∷ bytes) word (suc i) = word_is_ascii bytes (and_right (is_word_byte byte) (list_all is_word_byte bytes) word) i
+
+pub name_is_text : (text : List ℕ) (form : Form) → IsFirstForm text form → IsUtf8 form.relation.name
+unfolding fits
+name_is_text text form first =
+    let names = and_right (is_party form.relation.owner && is_party form.recipient && is_size form.relation.rows (length form.relation.columns)) (are_names form.relation form.filter) first.fitting in
+    IsUtf8-from_ascii form.relation.name (word_is_ascii form.relation.name (are_words form.relation form.filter names).relation)

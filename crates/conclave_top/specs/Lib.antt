@@ -1,3 +1,10 @@
+pub mod Command
+pub mod End
+pub mod Finish
 pub mod FirstForm
 pub mod Guess
 pub mod Kept
+pub mod Laws
+pub mod Outcome
+pub mod Outside
+pub mod Plain

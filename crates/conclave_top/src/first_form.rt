@@ -1,4 +1,5 @@
-ghost use Rattle.std.specs.Prelude.{◌≡◌, IfOk};
+ghost use Rattle.std.specs.Prelude.{◌≡◌, ◌≤◌};
+ghost use Rattle.conclave_top.specs.Plain.{columns_of};
 
 use crate::comparison::Comparison;
 use std::alloc::{AllocError, AllocFailed, Global};
@@ -53,6 +54,23 @@ impl Model for RelationPart {
     ghost Value = { RelationForm };
 
     ghost view = { λ r. record { name = r.name; owner = r.owner; rows = r.rows; columns = names_of r.columns.items } };
+}
+
+impl RelationPart {
+    /// Its columns, each of numbers.
+    pub(crate) fn columns(&self) -> &Vec<Column>
+        ensures { result.now.items ≡ columns_of self.now }
+    {
+        &self.columns
+    }
+
+    /// The declared number of rows.
+    pub(crate) fn declared(&self) -> u32
+        requires { self.now.rows ≤ 65536 }
+        ensures { result ≡ self.now.rows }
+    {
+        self.rows as u32
+    }
 }
 
 /// What the line of a filter says.

@@ -5,10 +5,17 @@
 //! the words, the files and the bytes written, and that the right words, text and files give status 0.
 #![tactic(auto)]
 
+mod command;
 mod comparison;
+mod end;
+mod finish;
 mod first_form;
 mod fitting;
 mod guess;
+mod kept;
+mod plain;
 mod read_form;
 mod scan;
 mod spell;
+
+pub use command::{conclave, statuses_are_exact};

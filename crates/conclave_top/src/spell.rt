@@ -33,14 +33,23 @@ fn put_before(text: &mut Vec<u8>, bytes: &[u8], after: &[u8]) -> Result<(), Allo
     put(text, after)
 }
 
-fn put_number(alloc: Global, text: &mut Vec<u8>, number: u64, after: &[u8]) -> Result<(), AllocError>
+fn put_number(
+    alloc: Global,
+    text: &mut Vec<u8>,
+    number: u64,
+    after: &[u8],
+) -> Result<(), AllocError>
     ensures { IfOk result (λ _. (more : List ℕ) → text.new.items ++ more ≡ text.old.items ++ (decimal number ++ (after.now ++ more))) }
 {
     let digits = format!(in alloc; "{number}")?;
     put_before(text, digits.as_bytes(), after)
 }
 
-fn put_relation(alloc: Global, text: &mut Vec<u8>, relation: &RelationPart) -> Result<(), AllocError>
+fn put_relation(
+    alloc: Global,
+    text: &mut Vec<u8>,
+    relation: &RelationPart,
+) -> Result<(), AllocError>
     ensures { IfOk result (λ _. (more : List ℕ) → text.new.items ++ more ≡ text.old.items ++ relation_line relation.now more) }
 {
     put(text, b"relation ")?;
@@ -76,7 +85,12 @@ fn put_further(text: &mut Vec<u8>, columns: &[Column]) -> Result<(), AllocError>
     }
 }
 
-fn put_filter(alloc: Global, text: &mut Vec<u8>, relation: &RelationPart, filter: &FilterPart) -> Result<(), AllocError>
+fn put_filter(
+    alloc: Global,
+    text: &mut Vec<u8>,
+    relation: &RelationPart,
+    filter: &FilterPart,
+) -> Result<(), AllocError>
     ensures { IfOk result (λ _. (more : List ℕ) → text.new.items ++ more ≡ text.old.items ++ filter_line relation.now.name filter.now more) }
 {
     put_before(text, filter.name.bytes(), b" = filter ")?;
@@ -86,7 +100,12 @@ fn put_filter(alloc: Global, text: &mut Vec<u8>, relation: &RelationPart, filter
     put_number(alloc, text, filter.number, b"\n")
 }
 
-fn put_output(alloc: Global, text: &mut Vec<u8>, filter: &FilterPart, recipient: u64) -> Result<(), AllocError>
+fn put_output(
+    alloc: Global,
+    text: &mut Vec<u8>,
+    filter: &FilterPart,
+    recipient: u64,
+) -> Result<(), AllocError>
     ensures { IfOk result (λ _. text.new.items ≡ text.old.items ++ output_line filter.now.name recipient) }
 {
     put(text, b"output ")?;
