@@ -17,5 +17,7 @@ mod plain;
 mod read_form;
 mod scan;
 mod spell;
+#[cfg(test)]
+mod tests;
 
 pub use command::{conclave, statuses_are_exact};
