@@ -1,5 +1,5 @@
 -- Columns that are cut out one by one.
-use Rattle.std.proofs.Common.{◌≡◌, ℕ, zero, suc, ◌+◌, ◌-◌, ◌<◌, ◌≤◌, Bool, true, false, ◌&&◌, ◌||◌, List, [], ◌∷◌, ◌++◌, refl, ap, sym, ◌∙◌, map, arith, cond, drop, append_assoc, append-nil}
+use Rattle.std.proofs.Common.{◌≡◌, ℕ, suc, ◌+◌, ◌-◌, ◌<◌, ◌≤◌, true, false, List, [], ◌∷◌, ◌++◌, refl, ap, sym, ◌∙◌, arith, drop, append_assoc, append-nil}
 use Rattle.words.specs.Columns.{names_of}
 use Rattle.words.specs.declared.column.Column.{Column}
 use Rattle.words.specs.declared.column.Kind.TheVariants.{Num}

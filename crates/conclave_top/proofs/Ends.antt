@@ -1,13 +1,13 @@
 -- The ends of a command, from the last stage to the first.
-use Rattle.std.proofs.Common.{◌≡◌, ℕ, ◌+◌, ◌-◌, ◌≤◌, ◌^◌, min, List, [], ◌∷◌, ◌++◌, Option, Some, None, Result, Ok, Err, ◌⊎◌, inl, inr, refl, ap, sym, ◌∙◌, subst, arith, option_map, append_assoc, string_bytes}
+use Rattle.std.proofs.Common.{◌≡◌, ℕ, ◌≤◌, List, [], ◌∷◌, ◌++◌, Option, Some, None, Ok, ◌⊎◌, inl, inr, refl, ap, sym, ◌∙◌, subst, arith, option_map, append_assoc}
 use Rattle.outside.specs.Cause.{Rose}
 use Rattle.outside.specs.Folder.{Files, Holds}
 use Rattle.tables.specs.Content.{Content}
 use Rattle.conclave_top.specs.declared.end.End.{End}
 use Rattle.conclave_top.specs.declared.end.End.TheVariants.{Done, Usage, NotBuilt, NoTable, Outside, Memory}
 use Rattle.conclave_top.specs.End.{EndsPlain, EndsForm, EndsTable}
-use Rattle.conclave_top.specs.FirstForm.{Form, IsFirstForm}
-use Rattle.conclave_top.specs.Plain.{IsQuery, HasNoTable, Prints, Called, PlainCalls, columns_of, declared_table, file_of, printed}
+use Rattle.conclave_top.specs.FirstForm.{Form}
+use Rattle.conclave_top.specs.Plain.{IsQuery, Called, declared_table, file_of, printed}
 
 -- a count that rose from a later moment rose from an earlier one
 pub rose_before : (first second last : ℕ) → first ≤ second → Rose second last → Rose first last

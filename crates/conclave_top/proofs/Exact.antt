@@ -1,16 +1,16 @@
 -- Each status comes exactly where it is due.
-use Rattle.std.proofs.Common.{◌≡◌, ℕ, List, Option, Some, None, Result, Ok, Err, ◌⊎◌, inl, inr, refl, ap, sym, ◌∙◌, subst, arith}
-use Rattle.std.specs.Prelude.{IsErr, IfSome}
+use Rattle.std.proofs.Common.{◌≡◌, ℕ, List, Option, Some, None, Result, Ok, Err, ◌⊎◌, inl, inr, refl, ap, sym, ◌∙◌, subst}
+use Rattle.std.specs.Prelude.{IsErr}
 use Rattle.outside.specs.Folder.{Files, Holds}
 use Rattle.tables.specs.Content.{Content}
 use Rattle.tables.specs.declared.fault.TableFault.{TableFault}
 use Rattle.conclave_top.specs.Command.{Command, plain, command_of}
-use Rattle.conclave_top.specs.FirstForm.{Form, IsFirstForm, spelled}
+use Rattle.conclave_top.specs.FirstForm.{Form, IsFirstForm}
 use Rattle.conclave_top.specs.Guess.{guess}
 use Rattle.conclave_top.specs.Laws.{Comes, PlainRun, PlainFormRun, StatusesAreExact}
-use Rattle.conclave_top.specs.Outcome.{Outcome, OutcomeOf, PlainOutcome, PlainIsDone, PlainIsNotBuilt, PlainHasNoTable, IsFailed, IsOutOfMemory, IsDone, IsRefused}
+use Rattle.conclave_top.specs.Outcome.{OutcomeOf, PlainOutcome, IsDone}
 use Rattle.conclave_top.specs.Outside.{Outside, HasFailed}
-use Rattle.conclave_top.specs.Plain.{IsQuery, IsNotBuilt, HasNoTable, Prints, declared_table, file_of, printed}
+use Rattle.conclave_top.specs.Plain.{IsQuery, HasNoTable, declared_table, file_of, printed}
 use Rattle.conclave_top.proofs.Spelled.{guess_spelled}
 
 -- a text says one form

@@ -1,5 +1,5 @@
 -- Columns of numbers, and the rows that a filter keeps one by one.
-use Rattle.std.proofs.Common.{◌≡◌, ℕ, ◌+◌, Bool, true, false, List, [], ◌∷◌, ◌++◌, map, filter, take, Some, slice_get, refl, ap, sym, ◌∙◌, cond, length, arith, get_or, add-one, ◌<◌}
+use Rattle.std.proofs.Common.{◌≡◌, ℕ, ◌+◌, Bool, List, [], ◌∷◌, ◌++◌, map, filter, take, Some, slice_get, refl, ap, ◌∙◌, cond, length, get_or, add-one, ◌<◌}
 use Rattle.std.proofs.lemmas.List.Elements.{filter-append}
 use Rattle.std.proofs.lemmas.Option.{slice_get_within, get_or_from_slice_get}
 use Rattle.std.proofs.Math.Seq.{take-suc}

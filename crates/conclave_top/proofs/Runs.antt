@@ -1,19 +1,17 @@
 -- Runs of word bytes, and the numbers and comparisons that such runs write.
-use Rattle.std.proofs.Common.{◌≡◌, ℕ, ◌+◌, ◌*◌, ◌/◌, ◌%◌, ◌^◌, ◌<◌, ◌≤◌, Bool, true, false, not, ◌&&◌, ◌||◌, List, [], ◌∷◌, ◌++◌, length, take, drop, Some, None, Ok, Err, Result, refl, ap, sym, ◌∙◌, subst, cond, arith, rules, option_map, nat_lt, nat_eq, ◌==◌, codes, if◌then◌else◌}
+use Rattle.std.proofs.Common.{◌≡◌, ℕ, ◌+◌, ◌%◌, ◌^◌, ◌<◌, Bool, true, false, not, ◌&&◌, ◌||◌, List, [], ◌∷◌, ◌++◌, length, take, drop, Some, Ok, refl, ap, ◌∙◌, arith, nat_lt, nat_eq, ◌==◌, codes}
 use Rattle.std.specs.Char.{is_ascii_digit, is_ascii_alphabetic}
 use Rattle.std.specs.Fmt.{decimal}
 use Rattle.std.specs.List.{list_all, prefix_len}
-use Rattle.std.specs.Str.Parse.{digits_value}
 use Rattle.std.proofs.lemmas.Fmt.{decimal_is_IsNumeral, decimal_nonempty, decimal_by_steps}
 use Rattle.std.proofs.lemmas.Grind.{common_steps}
-use Rattle.std.proofs.lemmas.List.{drop_at}
 use Rattle.std.proofs.lemmas.List.Folds.{list_all-append}
 use Rattle.std.proofs.Math.Seq.{drop-append_seam}
-use Rattle.words.specs.Numbers.{number_of, is_decimal, as_word}
+use Rattle.words.specs.Numbers.{number_of}
 use Rattle.conclave_top.specs.declared.comparison.Comparison.{Comparison}
 use Rattle.conclave_top.specs.declared.comparison.Comparison.TheVariants.{Equal, NotEqual, Less, LessEqual, Greater, GreaterEqual}
 use Rattle.conclave_top.specs.FirstForm.{is_word_byte, sign_of}
-use Rattle.conclave_top.specs.Guess.{word_at, behind_word, sign_at, behind_sign, number_at, comparison_at, comparison_of}
+use Rattle.conclave_top.specs.Guess.{word_at, behind_word, sign_at, behind_sign, number_at, comparison_at}
 
 -- both sides of a test that holds
 pub and_left : (a b : Bool) → a && b ≡ true → a ≡ true

@@ -1,13 +1,13 @@
 -- Cutting the parts out of the spelling of a form gives that form.
-use Rattle.std.proofs.Common.{◌≡◌, ℕ, zero, suc, ◌<◌, ◌≤◌, ◌^◌, Bool, true, false, not, ◌&&◌, ◌||◌, List, [], ◌∷◌, ◌++◌, length, drop, Option, Some, None, Result, Ok, Err, refl, ap, sym, ◌∙◌, subst, arith, codes, bytes_eq, nat_le, ◌⊎◌, inl, inr, lit<}
+use Rattle.std.proofs.Common.{◌≡◌, ℕ, zero, suc, ◌<◌, ◌≤◌, ◌^◌, Bool, true, false, not, ◌&&◌, List, [], ◌∷◌, ◌++◌, length, Some, None, Result, Err, refl, ap, sym, ◌∙◌, subst, arith, codes, bytes_eq, nat_le, ◌⊎◌, inl, inr, lit<}
 use Rattle.std.specs.Fmt.{decimal}
 use Rattle.std.specs.Str.{IsAscii, IsUtf8}
 use Rattle.std.proofs.lemmas.Str.{IsUtf8-from_ascii}
 use Rattle.std.specs.List.{list_all, list_any}
 use Rattle.std.proofs.lemmas.Grind.{common_steps}
 use Rattle.std.proofs.lemmas.Slice.Eq.{bytes_eq-Decides}
-use Rattle.conclave_top.specs.FirstForm.{RelationForm, FilterForm, Form, IsFirstForm, is_word_byte, is_name, begins_word, keywords, are_names, are_distinct, is_party, is_size, fits, spelled, relation_line, filter_line, output_line, columns_line, further_columns, line_end, sign_of}
-use Rattle.conclave_top.specs.Guess.{word_at, behind_word, number_at, comparison_at, columns_at, relation_at, filter_at, recipient_at, guess, begins_with_comma, ReadsAll}
+use Rattle.conclave_top.specs.FirstForm.{RelationForm, FilterForm, Form, IsFirstForm, is_word_byte, is_name, begins_word, keywords, are_names, are_distinct, is_party, is_size, fits, spelled, relation_line, filter_line, output_line, further_columns, line_end, sign_of}
+use Rattle.conclave_top.specs.Guess.{word_at, behind_word, number_at, comparison_at, columns_at, relation_at, filter_at, recipient_at, guess, ReadsAll}
 use Rattle.conclave_top.specs.declared.first_form.FormFault.{FormFault}
 use Rattle.conclave_top.specs.declared.first_form.FormFault.TheVariants.{NotBuilt, Memory}
 use Rattle.conclave_top.proofs.Runs.{and_left, and_right, word_at_run, behind_word_run, number_at_decimal, comparison_at_sign}

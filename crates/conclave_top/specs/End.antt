@@ -1,5 +1,5 @@
 -- How a command ends, before a line of it is written.
-use Rattle.std.specs.Prelude.{◌≡◌, ℕ, List, ◌++◌, Option, Ok, Err, IsErr, option_map, string_bytes}
+use Rattle.std.specs.Prelude.{◌≡◌, ℕ, List, ◌++◌, Option, Ok, IsErr, option_map, string_bytes}
 use Rattle.outside.specs.Folder.{Files, Holds}
 use Rattle.tables.specs.Content.{Content}
 use Rattle.conclave_top.specs.declared.end.End.{End}

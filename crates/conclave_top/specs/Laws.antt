@@ -1,8 +1,8 @@
 -- What an outcome says of a command line, in both directions.
-use Rattle.std.specs.Prelude.{◌≡◌, ℕ, List, ◌++◌, Option, Some, None, Result, Ok, IsErr, ◌⊎◌}
+use Rattle.std.specs.Prelude.{◌≡◌, ℕ, List, Some, None, Ok, IsErr, ◌⊎◌}
 use Rattle.outside.specs.Folder.{Files}
 use Rattle.tables.specs.Content.{Content}
-use Rattle.conclave_top.specs.Command.{Command, plain, command_of}
+use Rattle.conclave_top.specs.Command.{plain, command_of}
 use Rattle.conclave_top.specs.FirstForm.{Form, IsFirstForm}
 use Rattle.conclave_top.specs.Outcome.{Outcome, IsDone}
 use Rattle.conclave_top.specs.Outside.{Outside, HasFailed}

@@ -1,9 +1,8 @@
 -- What each status says.
 use Rattle.std.specs.Prelude.{◌≡◌, ℕ, List, Option, Some, None, ◌⊎◌}
-use Rattle.outside.specs.Folder.{Files}
 use Rattle.conclave_top.specs.Command.{Command, plain, command_of}
 use Rattle.conclave_top.specs.Outside.{Outside, gained, HasFailed, Tells, usage_line, not_built_line, no_table_line, outside_line, memory_line}
-use Rattle.conclave_top.specs.Plain.{IsNotBuilt, HasNoTable, Prints, PlainCalls, Called}
+use Rattle.conclave_top.specs.Plain.{IsNotBuilt, HasNoTable, Prints, PlainCalls}
 
 -- 0: this was written to the output, and nothing to the stream for errors
 pub record IsDone (output : List ℕ) (old new : Outside) (status : ℕ) : Type 0 where

@@ -1,5 +1,5 @@
 -- What the command `plain` comes to over a folder.
-use Rattle.std.specs.Prelude.{◌≡◌, ℕ, List, [], ◌∷◌, ◌++◌, map, Option, Some, Result, Ok, Err, IsErr, codes, option_map, ◌⊎◌}
+use Rattle.std.specs.Prelude.{◌≡◌, ℕ, List, [], ◌∷◌, ◌++◌, map, Option, Result, Ok, IsErr, codes, option_map, ◌⊎◌}
 use Rattle.outside.specs.Folder.{Files, Holds}
 use Rattle.tables.specs.Answer.{answer_of}
 use Rattle.tables.specs.Content.{Content}
@@ -7,7 +7,7 @@ use Rattle.tables.specs.File.{table_in}
 use Rattle.tables.specs.declared.fault.TableFault.{TableFault}
 use Rattle.words.specs.declared.column.Column.{Column}
 use Rattle.words.specs.declared.column.Kind.TheVariants.{Num}
-use Rattle.conclave_top.specs.FirstForm.{RelationForm, FilterForm, Form, IsFirstForm, line_end}
+use Rattle.conclave_top.specs.FirstForm.{RelationForm, Form, IsFirstForm, line_end}
 use Rattle.conclave_top.specs.Kept.{kept_rows}
 
 -- the name of a relation's file

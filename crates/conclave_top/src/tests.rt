@@ -94,45 +94,52 @@ fn prints_the_rows_that_the_filter_keeps(rt: HostRuntime) -> Result<(), Fail> {
 
 #[test]
 fn tells_each_refusal_in_one_line(rt: HostRuntime) -> Result<(), Fail> {
+    let cut: &[u8] =
+        b"relation r of 1 rows 3 (x num, y num)\nf = filter r where x >= 2\noutput f to 1";
     let four: &[u8] = b"x,y\n2,9\n1,8\n2,7\n2,7\n";
-    let all: [(&str, &[u8]); 2] = [("q.txt", QUERY), ("r.csv", FILE)];
-    let no_table: [(&str, &[u8]); 2] = [("q.txt", QUERY), ("r.csv", four)];
-    let cut: [(&str, &[u8]); 1] = [("q.txt", &QUERY[..QUERY.len() - 1])];
-    let cases: [(&[&str], &[(&str, &[u8])], u8, &[u8], &str); 9] = [
+    // The query, the relation's file, and how many of the two are there.
+    let cases: [(&[u8], &[u8], usize, u8, &[u8], &str); 4] = [
         (
-            &["plain", "q.txt"],
-            &no_table,
+            QUERY,
+            four,
+            2,
             3,
             b"file r.csv: not a table\n",
             "q.txt r.csv ",
         ),
-        (
-            &["plain", "q.txt"],
-            &cut,
-            2,
-            b"refused: not built line 0\n",
-            "q.txt ",
-        ),
-        (&["plain", "q.txt"], &[], 8, b"outside fault\n", "q.txt "),
-        (
-            &["plain", "q.txt"],
-            &all[..1],
-            8,
-            b"outside fault\n",
-            "q.txt r.csv ",
-        ),
-        (&[], &all, 1, USAGE, ""),
-        (&["plain"], &all, 1, USAGE, ""),
-        (&["plain", ""], &all, 1, USAGE, ""),
-        (&["plan", "q.txt"], &all, 1, USAGE, ""),
-        (&["plain", "q.txt", "t"], &all, 1, USAGE, ""),
+        (cut, FILE, 2, 2, b"refused: not built line 0\n", "q.txt "),
+        (QUERY, FILE, 0, 8, b"outside fault\n", "q.txt "),
+        (QUERY, FILE, 1, 8, b"outside fault\n", "q.txt r.csv "),
     ];
-    for (words, files, status, line, calls) in cases {
-        let run = run_words(rt.alloc(), words, files, (&[], &[], &[]))?;
+    for (query, file, present, status, line, calls) in cases {
+        let files = [("q.txt", query), ("r.csv", file)];
+        let present = &files[..present.min(2)];
+        let run = run_words(rt.alloc(), &["plain", "q.txt"], present, (&[], &[], &[]))?;
         assert_eq!(rt; run.status, status);
         assert!(rt; run.out.is_empty());
         assert!(rt; run.err.as_slice() == line);
         assert_eq!(rt; run.calls.as_str(), calls);
+    }
+    Ok(())
+}
+
+#[test]
+fn tells_the_usage_to_words_that_are_no_form(rt: HostRuntime) -> Result<(), Fail> {
+    let cases: [&[&str]; 7] = [
+        &[],
+        &["plain"],
+        &["plain", ""],
+        &["plan", "q.txt"],
+        &["--help"],
+        &["Plain", "q.txt"],
+        &["plain", "q.txt", "t"],
+    ];
+    for words in cases {
+        let run = run_words(rt.alloc(), words, &[("q.txt", QUERY)], (&[], &[], &[]))?;
+        assert_eq!(rt; run.status, 1);
+        assert!(rt; run.out.is_empty());
+        assert!(rt; run.err.as_slice() == USAGE);
+        assert!(rt; run.calls.is_empty());
     }
     Ok(())
 }

@@ -1,4 +1,4 @@
-use Rattle.std.proofs.Common.{ap, sym, ◌∙◌, ◌≡◌, true, false}
+use Rattle.std.proofs.Common.{ap, sym, ◌∙◌, ◌≡◌}
 use Rattle.words.specs.Columns.{names_of}
 use Rattle.conclave_top.specs.Guess.{columns_at}
 use Rattle.conclave_top.proofs.Columns.{columns_turn, columns_end, columns_done}

@@ -1,4 +1,4 @@
-use Rattle.std.proofs.Common.{◌≡◌, ◌∙◌, ap, sym, List, ℕ, ◌++◌, cond, ◌∷◌, []}
+use Rattle.std.proofs.Common.{◌∙◌, ap, sym, List, ℕ, ◌++◌, cond, ◌∷◌, []}
 use Rattle.tables.specs.Content.{Content}
 use Rattle.conclave_top.specs.Kept.{passes}
 use Rattle.conclave_top.specs.Plain.{columns_of}

@@ -1,4 +1,4 @@
-use Rattle.std.proofs.Common.{◌≡◌, ◌∙◌, ◌≤◌, ℕ, List, ap, sym, subst, inr, arith, rules, string_bytes, Ok}
+use Rattle.std.proofs.Common.{◌≡◌, ◌∙◌, ◌≤◌, ap, sym, subst, inr, rules, Ok}
 use Rattle.std.specs.Str.{IsUtf8}
 use Rattle.outside.specs.Folder.{Holds}
 use Rattle.conclave_top.specs.FirstForm.{Form}

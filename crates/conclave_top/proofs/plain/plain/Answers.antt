@@ -1,4 +1,4 @@
-use Rattle.std.proofs.Common.{◌≡◌, ◌∙◌, ℕ, List, ◌⊎◌, ap, sym, subst, inl, inr, rules, [], ◌∷◌}
+use Rattle.std.proofs.Common.{◌⊎◌, subst, inl, inr, [], ◌∷◌}
 use Rattle.outside.specs.Cause.{Rose}
 use Rattle.conclave_top.specs.End.{EndsForm}
 use Rattle.conclave_top.specs.FirstForm.{IsFirstForm}

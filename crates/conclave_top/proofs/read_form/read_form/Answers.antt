@@ -1,4 +1,4 @@
-use Rattle.std.proofs.Common.{◌≡◌, ℕ, List, sym, ◌∙◌, ap, bytes_eq}
+use Rattle.std.proofs.Common.{ℕ, List, sym, ◌∙◌, ap, bytes_eq}
 use Rattle.std.proofs.lemmas.Slice.Eq.{bytes_eq-Decides}
 use Rattle.conclave_top.proofs.Spelled.{refused, unfit, misspelled, not_true, not_false}
 use Rattle.conclave_top.proofs.read_form.read_form.Goals as goal
