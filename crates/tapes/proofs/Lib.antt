@@ -3,3 +3,6 @@ pub mod Writes
 pub mod Marks
 pub mod Spelling
 pub mod OneAnswer
+pub mod Keyed
+pub mod SortedOrders
+pub mod Making

@@ -3,6 +3,7 @@
 
 mod cursor;
 mod draw;
+mod make;
 mod marking;
 mod order;
 mod read_draw;
@@ -11,6 +12,7 @@ mod tape_bytes;
 
 pub use cursor::Cursor;
 pub use draw::{Draw, Need, Schedule};
+pub use make::make_tapes;
 pub use order::Order;
 pub use tape::{Tape, Tapes};
-pub use tape_bytes::TapeFault;
+pub use tape_bytes::{TapeFault, read_tape, write_tape};
