@@ -6,3 +6,6 @@ pub mod OneAnswer
 pub mod Keyed
 pub mod SortedOrders
 pub mod Making
+pub mod Occurrences
+pub mod SortingPlaces
+pub mod Aligning

@@ -1,4 +1,4 @@
-ghost use Rattle.std.specs.Prelude.{◌≡◌, ℕ, ◌+◌, ◌*◌, ◌<◌, ◌^◌, IfOk, map};
+ghost use Rattle.std.specs.Prelude.{◌≡◌, ℕ, ◌+◌, ◌*◌, ◌<◌, ◌^◌, IfOk};
 ghost use Rattle.rand_chacha.specs.ChaCha.{word_at};
 ghost use Rattle.tapes.specs.Made.{key_bytes, key_word, worded, IsSortedByWords, IsMadeDraw, IsMadeTape, AreMade};
 ghost use Rattle.tapes.specs.Needs.{Meets, FitsNeeds};
@@ -6,6 +6,7 @@ ghost use Rattle.tapes.specs.Order.{IsShortOrder};
 
 use crate::draw::{Draw, Need, Schedule};
 use crate::order::Order;
+use crate::pairs::numbers_of;
 use crate::tape::{Tape, Tapes};
 use byteorder::{BigEndian, ByteOrder};
 use rand_chacha::ChaCha20Rng;
@@ -111,10 +112,4 @@ fn worded_numbers(alloc: Global, key: [u8; 32], count: u32) -> Result<Vec<(u64, 
         pairs.push((next_word(&mut words), i))?;
     }
     Ok(pairs)
-}
-
-fn numbers_of(alloc: Global, pairs: &[(u64, u32)]) -> Result<Vec<u32>, AllocError>
-    ensures { IfOk result (λ numbers. numbers.items ≡ map (λ pair. pair.1) pairs.now) }
-{
-    pairs.iter().map(|pair| pair.1).collect(alloc)
 }
