@@ -1,15 +1,14 @@
 -- The order that aligns two lists of rows: how it comes from sorting both, that there is one, and
 -- that the way back is its inverse.
-use Rattle.std.proofs.Common.{◌≡◌, ◌≢◌, ℕ, suc, zero, ◌+◌, ◌<◌, ◌≤◌, Bool, true, false, not, cond, Vec, Global, List, [], ◌∷◌, ◌++◌, length, get_or, map, take, drop, refl, sym, ◌∙◌, ap, subst, ⊎_elim, arith, add-one}
+use Rattle.std.proofs.Common.{◌≡◌, ℕ, suc, zero, ◌+◌, ◌<◌, ◌≤◌, Bool, true, false, not, Vec, Global, List, [], ◌∷◌, length, get_or, take, refl, sym, ◌∙◌, ap, ⊎_elim, arith}
 use Rattle.std.proofs.lemmas.List.{get_or-map, length-map, take_more_same, ext_get_or}
 use Rattle.std.proofs.lemmas.Bool.{cases_order}
 use Rattle.lanes.proofs.LaneLemmas.{length-picked, get_or-picked}
-use Rattle.bags.specs.Bag.{row_eq, count_of, occurrences}
-use Rattle.bags.proofs.Bags.{occurrences-append}
+use Rattle.bags.specs.Bag.{row_eq, count_of}
 use Rattle.bags.proofs.Rows.{row_test}
-use Rattle.tapes.specs.Order.{IsOrder, composed, inverse_of, place_of}
+use Rattle.tapes.specs.Order.{composed, inverse_of, place_of}
 use Rattle.tapes.specs.Align.{rows_of, row_at, occurrence, rows_applied, Aligns, SortsPlaces}
-use Rattle.tapes.proofs.OrderLemmas.{length-inverse, get_or-inverse, IsOrder-inverse, IsOrder-composed, place_of-within, place_of-is, place_of-at}
+use Rattle.tapes.proofs.OrderLemmas.{length-inverse, get_or-inverse, IsOrder-inverse, IsOrder-composed, place_of-within, place_of-is}
 
 pub length-rows_applied : (o : List ℕ) (rows : List (List ℕ)) → length (rows_applied o rows) ≡ length o
 length-rows_applied o rows = length-map {B = List ℕ} o (λ p. row_at rows p)
@@ -27,21 +26,21 @@ aligned x y s t a b e =
       source_long = d-long ∙ sym lengths ∙ a.long;
       target_long = d-long ∙ b.long;
       row = λ k h.
-        let within : k < length t = omega (arith, b.long) in
-        let j = place_of k t in
-        let j-within : j < length t = place_of-within t b.order k within in
-        ap (row_at y) (sym (place_of-is t b.order k within)) ∙ sym (row_at-applied t y j j-within) ∙ ap (λ r. row_at r j) (sym e)
-        ∙ row_at-applied s x j (omega arith) ∙ ap (row_at x) (sym (number s t k within));
+          let within : k < length t = omega (arith, b.long) in
+          let j = place_of k t in
+          let j-within : j < length t = place_of-within t b.order k within in
+          ap (row_at y) (sym (place_of-is t b.order k within)) ∙ sym (row_at-applied t y j j-within) ∙ ap (λ r. row_at r j) (sym e)
+          ∙ row_at-applied s x j (omega arith) ∙ ap (row_at x) (sym (number s t k within));
       same_occurrence = λ k h.
-        let within : k < length t = omega (arith, b.long) in
-        let j = place_of k t in
-        let j-within : j < length t = place_of-within t b.order k within in
-        ap (occurrence y) (sym (place_of-is t b.order k within)) ∙ b.ranks j j-within ∙ ap (λ r. occurrence r j) (sym e)
-        ∙ sym (a.ranks j (omega arith)) ∙ ap (occurrence x) (sym (number s t k within));
+          let within : k < length t = omega (arith, b.long) in
+          let j = place_of k t in
+          let j-within : j < length t = place_of-within t b.order k within in
+          ap (occurrence y) (sym (place_of-is t b.order k within)) ∙ b.ranks j j-within ∙ ap (λ r. occurrence r j) (sym e)
+          ∙ sym (a.ranks j (omega arith)) ∙ ap (occurrence x) (sym (number s t k within));
     }
   where
-  number : (s t : List ℕ) (k : ℕ) → k < length t → get_or (composed s (inverse_of t)) k 0 ≡ get_or s (place_of k t) 0
-  number s t k h = get_or-picked (inverse_of t) s k (omega (arith, length-inverse t)) ∙ ap (λ i. get_or s i 0) (get_or-inverse t k h)
+    number : (s t : List ℕ) (k : ℕ) → k < length t → get_or (composed s (inverse_of t)) k 0 ≡ get_or s (place_of k t) 0
+    number s t k h = get_or-picked (inverse_of t) s k (omega (arith, length-inverse t)) ∙ ap (λ i. get_or s i 0) (get_or-inverse t k h)
 
 -- a later place of a row has more of it before
 count_more : (r : List ℕ) (rows : List (List ℕ)) (p q : ℕ) → p < q → q ≤ length rows → row_at rows p ≡ r → count_of r (take p rows) < count_of r (take q rows)
@@ -56,12 +55,12 @@ one_place : (rows : List (List ℕ)) (p q : ℕ) → p < length rows → q < len
 one_place rows p q a b e o =
     ⊎_elim (λ same. same)
     (⊎_elim
-      (λ lt. absurd
-        (let more : count_of (row_at rows q) (take p rows) < count_of (row_at rows q) (take q rows) = count_more (row_at rows q) rows p q lt (omega arith) e in
-         let same : count_of (row_at rows p) (take p rows) ≡ count_of (row_at rows q) (take p rows) = ap (λ r. count_of r (take p rows)) e in omega arith))
-      (λ gt. absurd
-        (let more : count_of (row_at rows p) (take q rows) < count_of (row_at rows p) (take p rows) = count_more (row_at rows p) rows q p gt (omega arith) (sym e) in
-         let same : count_of (row_at rows q) (take q rows) ≡ count_of (row_at rows p) (take q rows) = ap (λ r. count_of r (take q rows)) (sym e) in omega arith)))
+    (λ lt. absurd
+    (let more : count_of (row_at rows q) (take p rows) < count_of (row_at rows q) (take q rows) = count_more (row_at rows q) rows p q lt (omega arith) e in
+    let same : count_of (row_at rows p) (take p rows) ≡ count_of (row_at rows q) (take p rows) = ap (λ r. count_of r (take p rows)) e in omega arith))
+    (λ gt. absurd
+    (let more : count_of (row_at rows p) (take q rows) < count_of (row_at rows p) (take p rows) = count_more (row_at rows p) rows q p gt (omega arith) (sym e) in
+    let same : count_of (row_at rows q) (take q rows) ≡ count_of (row_at rows p) (take q rows) = ap (λ r. count_of r (take q rows)) (sym e) in omega arith)))
     (cases_order p q)
 
 -- only one order aligns
@@ -69,11 +68,11 @@ pub only_aligned : (x y : List (List ℕ)) (d e : List ℕ) → Aligns x y d →
 only_aligned x y d e a b =
     ext_get_or 0 d e (a.target_long ∙ sym b.target_long)
     (λ k h.
-      let within : k < length y = omega (arith, a.target_long) in
-      let p-within : get_or d k 0 < length d = a.order.below k h in
-      let q-within : get_or e k 0 < length e = b.order.below k (omega (arith, b.target_long)) in
-      one_place x (get_or d k 0) (get_or e k 0) (omega (arith, a.source_long)) (omega (arith, b.source_long)) (sym (a.row k within) ∙ b.row k within)
-      (sym (a.same_occurrence k within) ∙ b.same_occurrence k within))
+    let within : k < length y = omega (arith, a.target_long) in
+    let p-within : get_or d k 0 < length d = a.order.below k h in
+    let q-within : get_or e k 0 < length e = b.order.below k (omega (arith, b.target_long)) in
+    one_place x (get_or d k 0) (get_or e k 0) (omega (arith, a.source_long)) (omega (arith, b.source_long)) (sym (a.row k within) ∙ b.row k within)
+    (sym (a.same_occurrence k within) ∙ b.same_occurrence k within))
 
 -- the inverse aligns the other way round
 pub aligned_back : (x y : List (List ℕ)) (d : List ℕ) → Aligns x y d → Aligns y x (inverse_of d)
@@ -82,15 +81,15 @@ aligned_back x y d a = record {
   source_long = length-inverse d ∙ a.target_long;
   target_long = length-inverse d ∙ a.source_long;
   row = λ k h.
-    let within : k < length d = omega (arith, a.source_long) in
-    let j-within : place_of k d < length d = place_of-within d a.order k within in
-    ap (row_at x) (sym (place_of-is d a.order k within)) ∙ sym (a.row (place_of k d) (omega (arith, a.target_long)))
-    ∙ ap (row_at y) (sym (get_or-inverse d k within));
+      let within : k < length d = omega (arith, a.source_long) in
+      let j-within : place_of k d < length d = place_of-within d a.order k within in
+      ap (row_at x) (sym (place_of-is d a.order k within)) ∙ sym (a.row (place_of k d) (omega (arith, a.target_long)))
+      ∙ ap (row_at y) (sym (get_or-inverse d k within));
   same_occurrence = λ k h.
-    let within : k < length d = omega (arith, a.source_long) in
-    let j-within : place_of k d < length d = place_of-within d a.order k within in
-    ap (occurrence x) (sym (place_of-is d a.order k within)) ∙ sym (a.same_occurrence (place_of k d) (omega (arith, a.target_long)))
-    ∙ ap (occurrence y) (sym (get_or-inverse d k within));
+      let within : k < length d = omega (arith, a.source_long) in
+      let j-within : place_of k d < length d = place_of-within d a.order k within in
+      ap (occurrence x) (sym (place_of-is d a.order k within)) ∙ sym (a.same_occurrence (place_of k d) (omega (arith, a.target_long)))
+      ∙ ap (occurrence y) (sym (get_or-inverse d k within));
 }
 
 -- applied to the source it gives the target
@@ -98,8 +97,8 @@ pub aligned_applied : (x y : List (List ℕ)) (d : List ℕ) → Aligns x y d �
 aligned_applied x y d a =
     ext_get_or [] (rows_applied d x) y (length-rows_applied d x ∙ a.target_long)
     (λ k h.
-      let within : k < length d = omega (arith, length-rows_applied d x) in
-      row_at-applied d x k within ∙ sym (a.row k (omega (arith, a.target_long))))
+    let within : k < length d = omega (arith, length-rows_applied d x) in
+    row_at-applied d x k within ∙ sym (a.row k (omega (arith, a.target_long))))
 
 -- ---- rows as the code reads them
 

@@ -1,10 +1,10 @@
 -- Sorting items by a key and then by a number.
-use Rattle.std.proofs.Common.{◌≡◌, ◌≢◌, ℕ, ◌<◌, ◌≤◌, Bool, true, false, List, length, get_or, map, refl, sym, ◌∙◌, ap, subst, ◌⊎◌, inl, inr, Ordering, cond, eqb, arith}
+use Rattle.std.proofs.Common.{◌≡◌, ◌≢◌, ℕ, ◌<◌, false, List, length, get_or, refl, sym, ◌∙◌, ap, ◌⊎◌, inl, inr, Ordering, cond, eqb, arith}
 use Rattle.std.specs.declared.cmp.Ordering.TheVariants.{Less, Equal, Greater}
-use Rattle.std.specs.Ordering.{nat_cmp, ordering_then, ordering_reverse, is_lt, on, then_cmp}
-use Rattle.std.specs.Cmp.{IsTotalOrder, IsStrictWeakOrder}
+use Rattle.std.specs.Ordering.{nat_cmp, ordering_then, ordering_reverse, is_lt}
+use Rattle.std.specs.Cmp.{IsTotalOrder}
 use Rattle.std.specs.List.Sorted.{IsSorted}
-use Rattle.std.proofs.lemmas.Cmp.{then_total, on_total, nat_cmp_total, ranked}
+use Rattle.std.proofs.lemmas.Cmp.{then_total, on_total, nat_cmp_total}
 use Rattle.std.proofs.lemmas.List.Sorted.{sorted_far, ranks_by}
 use Rattle.std.proofs.lemmas.Bool.{cases_order, true≢false, lt-ltb}
 
@@ -25,10 +25,10 @@ below_from Less s m n e h d = inl refl
 below_from Equal Less m n e h d = absurd (cc)
 below_from Equal Equal m n e h d =
     elim (cases_order m n) as (λ _. (Equal ≡ Less) ⊎ ((Equal ≡ Equal) × (m < n))) [
-      inl same ↦ absurd (d same)
-    | inr other ↦ elim other as (λ _. (Equal ≡ Less) ⊎ ((Equal ≡ Equal) × (m < n))) [
-        inl lt ↦ inr (refl, lt)
-      | inr gt ↦ absurd (true≢false (sym (ap (λ t. is_lt (cond t Less (cond (eqb n m) Equal Greater))) (lt-ltb n m gt)) ∙ h))
+      | inl same ↦ absurd (d same)
+      | inr other ↦ elim other as (λ _. (Equal ≡ Less) ⊎ ((Equal ≡ Equal) × (m < n))) [
+        | inl lt ↦ inr (refl, lt)
+        | inr gt ↦ absurd (true≢false (sym (ap (λ t. is_lt (cond t Less (cond (eqb n m) Equal Greater))) (lt-ltb n m gt)) ∙ h))
       ]
     ]
 below_from Equal Greater m n e h d = absurd (cc)

@@ -1,22 +1,19 @@
 -- Where places are sorted by their rows, how often a row came before is how often it stands before
 -- in the sorted list.
-use Rattle.std.proofs.Common.{◌≡◌, ◌≢◌, ℕ, suc, zero, ◌+◌, ◌<◌, ◌≤◌, Bool, true, false, cond, ◌&&◌, eqb, ltb, List, [], ◌∷◌, ◌++◌, length, get_or, map, take, drop, refl, sym, ◌∙◌, ap, subst, ⊎_elim, ◌⊎◌, inl, inr, arith, zero-add}
-use Rattle.std.specs.List.{All, sum_by}
-use Rattle.std.specs.List.Sorted.{IsPermutation, IsSorted, IsSortedByKey}
-use Rattle.std.specs.declared.cmp.Ordering.TheVariants.{Less, Equal, Greater}
-use Rattle.std.specs.Ordering.{nat_cmp, ordering_then, is_lt}
+use Rattle.std.proofs.Common.{◌≡◌, ℕ, suc, zero, ◌+◌, ◌<◌, ◌≤◌, Bool, true, false, cond, ◌&&◌, ltb, List, [], ◌∷◌, ◌++◌, length, get_or, map, take, drop, refl, sym, ◌∙◌, ap, subst, ⊎_elim, ◌⊎◌, inl, inr, arith, zero-add}
+use Rattle.std.specs.List.{sum_by}
+use Rattle.std.specs.List.Sorted.{IsPermutation}
+use Rattle.std.specs.declared.cmp.Ordering.TheVariants.{Less, Equal}
 use Rattle.std.proofs.lemmas.Bool.{lt-ltb, le-ltb}
 use Rattle.std.proofs.lemmas.List.{take-append-drop, get_or-take, get_or-drop, get_or_default, length-take, length-drop}
 use Rattle.std.proofs.lemmas.List.Recursion.{is_sum_by}
 use Rattle.std.proofs.lemmas.List.Sorted.{sum_by-IsPermutation}
 use Rattle.std.proofs.lemmas.Cmp.{tied_itself}
-use Rattle.bags.specs.Bag.{occurrences, row_eq, count_of, SameBagBy}
-use Rattle.bags.specs.Sorted.{row_cmp, sorted}
-use Rattle.bags.proofs.Bags.{occurrences-append}
-use Rattle.bags.proofs.Permutations.{SameBag-from_permutation}
+use Rattle.bags.specs.Bag.{row_eq, count_of}
+use Rattle.bags.specs.Sorted.{row_cmp}
 use Rattle.bags.proofs.Rows.{row_test, row_order}
 use Rattle.tapes.specs.Align.{Numbered}
-use Rattle.tapes.proofs.Keyed.{keyed_cmp, keyed_rising, KeyedBelow}
+use Rattle.tapes.proofs.Keyed.{KeyedBelow}
 
 -- how many items pass a test
 abbrev pub passing : {X : Type 0} → (X → Bool) → List X → ℕ
@@ -28,8 +25,8 @@ pub passing-permutation : {X : Type 0} (p : X → Bool) (xs ys : List X) → IsP
 passing-permutation {X} p xs ys h =
     counted xs ∙ sym (sum_by-IsPermutation (λ y. cond (p y) 1 0) xs ys h) ∙ sym (counted ys)
   where
-  counted : (zs : List X) → passing p zs ≡ sum_by (λ y. cond (p y) 1 0) zs
-  counted zs = is_sum_by (passing p) (λ y. cond (p y) 1 0) refl (λ _ _. refl) zs
+    counted : (zs : List X) → passing p zs ≡ sum_by (λ y. cond (p y) 1 0) zs
+    counted zs = is_sum_by (passing p) (λ y. cond (p y) 1 0) refl (λ _ _. refl) zs
 
 passing-append : {X : Type 0} (p : X → Bool) (xs ys : List X) → passing p (xs ++ ys) ≡ passing p xs + passing p ys
 passing-append p [] ys = omega arith
@@ -82,18 +79,18 @@ rows_differ x y less = cases (row_eq y x) refl where
   cases : (b : Bool) → row_eq y x ≡ b → b ≡ false
   cases false e = refl
   cases true e = absurd
-    (let same : y ≡ x = (row_test.decides y x).0 e in
-     let tied : row_cmp x y ≡ Equal = ap (λ z. row_cmp x z) same ∙ tied_itself row_order.total x in
-     let both : Less ≡ Equal = sym less ∙ tied in cc)
+      (let same : y ≡ x = (row_test.decides y x).0 e in
+      let tied : row_cmp x y ≡ Equal = ap (λ z. row_cmp x z) same ∙ tied_itself row_order.total x in
+      let both : Less ≡ Equal = sym less ∙ tied in cc)
 
 rows_differ_back : (x y : List ℕ) → row_cmp x y ≡ Less → row_eq x y ≡ false
 rows_differ_back x y less = cases (row_eq x y) refl where
   cases : (b : Bool) → row_eq x y ≡ b → b ≡ false
   cases false e = refl
   cases true e = absurd
-    (let same : x ≡ y = (row_test.decides x y).0 e in
-     let tied : row_cmp x y ≡ Equal = ap (λ z. row_cmp x z) (sym same) ∙ tied_itself row_order.total x in
-     let both : Less ≡ Equal = sym less ∙ tied in cc)
+      (let same : x ≡ y = (row_test.decides x y).0 e in
+      let tied : row_cmp x y ≡ Equal = ap (λ z. row_cmp x z) (sym same) ∙ tied_itself row_order.total x in
+      let both : Less ≡ Equal = sym less ∙ tied in cc)
 
 earlier : {X : Type 0} (f : X → List ℕ) (g : X → ℕ) (q y : X) → KeyedBelow row_cmp f g y q → (row_eq (f q) (f y) && ltb (g y) (g q)) ≡ row_eq (f q) (f y)
 earlier f g q y (inl less) = rw (rows_differ (f y) (f q) less) refl
@@ -115,23 +112,26 @@ passing_sorted {X} f g ys below j q h e =
     ap (passing test) (sym (take-append-drop j ys)) ∙ passing-append test (take j ys) (drop j ys)
     ∙ ap (λ n. n + passing test (drop j ys)) front ∙ ap (λ n. count_of (f q) (map f (take j ys)) + n) back ∙ omega arith
   where
-  test : X → Bool
-  test y = row_eq (f q) (f y) && ltb (g y) (g q)
-  at_j : (d : X) → get_or ys j d ≡ q
-  at_j d = get_or_default ys j d q h ∙ e
-  front : passing test (take j ys) ≡ count_of (f q) (map f (take j ys))
-  front = passing_rows test f (f q) (take j ys)
-    (λ k d i.
-      let small : k < j = omega (arith, length-take j ys) in
-      subst (λ (y : X). test y ≡ row_eq (f q) (f y)) (sym (get_or-take j ys k d small))
-      (earlier f g q (get_or ys k d) (subst (λ (z : X). KeyedBelow row_cmp f g (get_or ys k d) z) (at_j d) (below k j d small h))))
-  back : passing test (drop j ys) ≡ 0
-  back = passing_none test (drop j ys)
-    (λ k d i.
-      let within : j + k < length ys = omega (arith, length-drop j ys) in
-      subst (λ (y : X). test y ≡ false) (sym (get_or-drop j ys k d))
-      (⊎_elim
+    test : X → Bool
+    test y = row_eq (f q) (f y) && ltb (g y) (g q)
+
+    at_j : (d : X) → get_or ys j d ≡ q
+    at_j d = get_or_default ys j d q h ∙ e
+
+    front : passing test (take j ys) ≡ count_of (f q) (map f (take j ys))
+    front = passing_rows test f (f q) (take j ys)
+        (λ k d i.
+        let small : k < j = omega (arith, length-take j ys) in
+        subst (λ (y : X). test y ≡ row_eq (f q) (f y)) (sym (get_or-take j ys k d small))
+        (earlier f g q (get_or ys k d) (subst (λ (z : X). KeyedBelow row_cmp f g (get_or ys k d) z) (at_j d) (below k j d small h))))
+
+    back : passing test (drop j ys) ≡ 0
+    back = passing_none test (drop j ys)
+        (λ k d i.
+        let within : j + k < length ys = omega (arith, length-drop j ys) in
+        subst (λ (y : X). test y ≡ false) (sym (get_or-drop j ys k d))
+        (⊎_elim
         (λ first. subst (λ (n : ℕ). test (get_or ys n d) ≡ false) (omega arith)
-          (subst (λ (y : X). test y ≡ false) (sym (at_j d)) (and_false (row_eq (f q) (f q)) (ltb (g q) (g q)) (le-ltb (g q) (g q) (omega arith)))))
+        (subst (λ (y : X). test y ≡ false) (sym (at_j d)) (and_false (row_eq (f q) (f q)) (ltb (g q) (g q)) (le-ltb (g q) (g q) (omega arith)))))
         (λ more. later f g q (get_or ys (j + k) d) (subst (λ (z : X). KeyedBelow row_cmp f g z (get_or ys (j + k) d)) (at_j d) (below j (j + k) d (omega arith) within)))
         (zero_or_more k)))

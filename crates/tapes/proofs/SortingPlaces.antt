@@ -1,11 +1,11 @@
 -- What sorting rows with their places gives.
-use Rattle.std.proofs.Common.{◌≡◌, ◌≢◌, ℕ, suc, zero, ◌+◌, ◌<◌, ◌≤◌, Bool, true, false, ◌&&◌, ltb, List, [], ◌∷◌, ◌++◌, length, get_or, map, take, refl, sym, ◌∙◌, ap, subst, arith, add-one}
+use Rattle.std.proofs.Common.{◌≡◌, ℕ, suc, zero, ◌+◌, ◌<◌, false, ◌&&◌, ltb, List, [], ◌∷◌, ◌++◌, length, get_or, map, take, refl, sym, ◌∙◌, ap, subst, arith, add-one}
 use Rattle.std.specs.List.{All, range_with_len}
 use Rattle.std.specs.List.Sorted.{IsPermutation, IsSorted, IsSortedByKey}
 use Rattle.std.specs.declared.cmp.Ordering.{Ordering}
 use Rattle.std.specs.declared.cmp.Ordering.TheVariants.{Less, Equal, Greater}
 use Rattle.std.specs.Ordering.{nat_cmp, ordering_then, is_lt}
-use Rattle.std.proofs.lemmas.List.{get_or-map, length-map, take-map, get_or_default}
+use Rattle.std.proofs.lemmas.List.{get_or-map, length-map, take-map}
 use Rattle.std.proofs.lemmas.List.Sorted.{All-permutation, length_permutation, IsPermutation-map}
 use Rattle.bags.specs.Bag.{row_eq, count_of}
 use Rattle.bags.specs.Sorted.{row_cmp, sorted}
@@ -69,7 +69,6 @@ map_twice g p (y ∷ ys) = ap (λ zs. p (g y) ∷ zs) (map_twice g p ys)
 
 module _ {X : Type 0} (f : X → List ℕ) (g : X → ℕ) (rs : List (List ℕ)) (xs ys : List X) (n : Numbered f g 0 rs xs) (moved : IsPermutation xs ys)
     (up : IsSorted (keyed_cmp row_cmp f g) ys) where
-
   places : IsPermutation (identity_of (length rs)) (map g ys)
   places = subst (λ (zs : List ℕ). IsPermutation zs (map g ys)) (numbered_places f g 0 rs xs n) (IsPermutation-map g xs ys moved)
 
@@ -84,7 +83,7 @@ module _ {X : Type 0} (f : X → List ℕ) (g : X → ℕ) (rs : List (List ℕ)
 
   rows_are : All (λ (y : X). row_at rs (g y) ≡ f y) ys
   rows_are = All-permutation (λ (y : X). row_at rs (g y) ≡ f y) xs ys moved
-    (λ k d h. let item = numbered_items f g 0 rs xs n k d h in
+      (λ k d h. let item = numbered_items f g 0 rs xs n k d h in
       ap (λ i. row_at rs i) (item.1 ∙ omega arith) ∙ sym item.0)
 
   applied_is : rows_applied (map g ys) rs ≡ map f ys
@@ -103,17 +102,17 @@ module _ {X : Type 0} (f : X → List ℕ) (g : X → ℕ) (rs : List (List ℕ)
   below i j d h w =
       keyed_rising row_order.total f g ys up i j d h w
       (λ e. absurd
-        (let same : i ≡ j = order.apart i j (omega (arith, same_long)) (omega (arith, same_long))
-           (number_at i d (omega arith) ∙ e ∙ sym (number_at j d w)) in omega arith))
+      (let same : i ≡ j = order.apart i j (omega (arith, same_long)) (omega (arith, same_long))
+      (number_at i d (omega arith) ∙ e ∙ sym (number_at j d w)) in omega arith))
 
   rank : (j : ℕ) (q : X) → j < length ys → get_or ys j q ≡ q → occurrence rs (get_or (map g ys) j 0) ≡ occurrence (rows_applied (map g ys) rs) j
   rank j q h e =
       let number : get_or (map g ys) j 0 ≡ g q = number_at j q h ∙ ap g e in
       let row : row_at rs (g q) ≡ f q = ap (λ y. row_at rs (g y)) (sym e) ∙ rows_are j q h ∙ ap f e in
       let counted : passing (λ y. row_eq (f q) (f y) && ltb (g y) (g q)) xs ≡ count_of (f q) (take (g q) rs)
-        = passing_numbered f g (f q) 0 (g q) (g q) rs xs n (omega arith) in
+      = passing_numbered f g (f q) 0 (g q) (g q) rs xs n (omega arith) in
       let swapped : passing (λ y. row_eq (f q) (f y) && ltb (g y) (g q)) xs ≡ passing (λ y. row_eq (f q) (f y) && ltb (g y) (g q)) ys
-        = passing-permutation (λ y. row_eq (f q) (f y) && ltb (g y) (g q)) xs ys moved in
+      = passing-permutation (λ y. row_eq (f q) (f y) && ltb (g y) (g q)) xs ys moved in
       let there : row_at (rows_applied (map g ys) rs) j ≡ f q = ap (λ zs. row_at zs j) applied_is ∙ get_or-map f ys j q [] h ∙ ap f e in
       let front : take j (rows_applied (map g ys) rs) ≡ map f (take j ys) = ap (take j) applied_is ∙ take-map f j ys in
       ap (occurrence rs) number ∙ ap (λ r. count_of r (take (g q) rs)) row ∙ sym counted ∙ swapped ∙ passing_sorted f g ys below j q h e
@@ -130,5 +129,6 @@ module _ {X : Type 0} (f : X → List ℕ) (g : X → ℕ) (rs : List (List ℕ)
     item_at [] j h = absurd (omega arith)
     item_at (z ∷ zs) zero h = (z, refl)
     item_at (z ∷ zs) (suc j) h = item_at zs j (omega arith)
+
     rank_somewhere : (j : ℕ) → j < length ys → occurrence rs (get_or (map g ys) j 0) ≡ occurrence (rows_applied (map g ys) rs) j
     rank_somewhere j h = let some = item_at ys j h in rank j some.0 h some.1

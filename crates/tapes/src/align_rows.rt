@@ -63,7 +63,10 @@ fn sort_places(alloc: Global, rows: &Vec<Vec<u64>>) -> Result<Order, AllocError>
 }
 
 // Each row, lent, with its place.
-fn number_rows<'a>(alloc: Global, rows: &'a Vec<Vec<u64>>) -> Result<Vec<(&'a [u64], u32)>, AllocError>
+fn number_rows<'a>(
+    alloc: Global,
+    rows: &'a Vec<Vec<u64>>,
+) -> Result<Vec<(&'a [u64], u32)>, AllocError>
     requires { length rows.now.items < 2 ^ 32 }
     ensures { IfOk result (λ keyed. Numbered (λ pair. pair.0.now) (λ pair. pair.1) 0 (rows_of rows.now.items) keyed.items) }
 {

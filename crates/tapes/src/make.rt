@@ -1,7 +1,7 @@
 ghost use Rattle.std.specs.Prelude.{◌≡◌, ℕ, ◌+◌, ◌*◌, ◌<◌, ◌^◌, IfOk};
 ghost use Rattle.rand_chacha.specs.ChaCha.{word_at};
 ghost use Rattle.tapes.specs.Made.{key_bytes, key_word, worded, IsSortedByWords, IsMadeDraw, IsMadeTape, AreMade};
-ghost use Rattle.tapes.specs.Needs.{Meets, FitsNeeds};
+ghost use Rattle.tapes.specs.Needs.{Meets, FitsNeeds, FitsSchedule};
 ghost use Rattle.tapes.specs.Order.{IsShortOrder};
 
 use crate::draw::{Draw, Need, Schedule};
@@ -18,9 +18,7 @@ use std::alloc::{AllocError, Global};
 /// made of the seed, the tape's number and the draw's.
 pub fn make_tapes(alloc: Global, schedule: &Schedule, seed: u64) -> Result<Tapes, AllocError>
     ensures made { IfOk result (λ tapes. AreMade schedule.now seed tapes) }
-    ensures first_fits { IfOk result (λ tapes. FitsNeeds schedule.now.first.items tapes.first) }
-    ensures second_fits { IfOk result (λ tapes. FitsNeeds schedule.now.second.items tapes.second) }
-    ensures third_fits { IfOk result (λ tapes. FitsNeeds schedule.now.third.items tapes.third) }
+    ensures fits { IfOk result (λ tapes. FitsSchedule schedule.now tapes) }
 {
     let first = make_tape(alloc, seed, 1, &schedule.first)?;
     let second = make_tape(alloc, seed, 2, &schedule.second)?;

@@ -1,4 +1,4 @@
-use Rattle.std.proofs.Common.{◌≡◌, take}
+use Rattle.std.proofs.Common.{take}
 use Rattle.tapes.specs.Align.{rows_of, Numbered}
 use Rattle.tapes.proofs.align_rows.number_rows.Given as goal
 

@@ -6,4 +6,4 @@ pub returns-in_ok-order-in-OrderOf-clause-made : goal.returns-in_ok-order-in-Ord
 returns-in_ok-order-in-OrderOf-clause-made c =
     rw c.in-OrderOf.is
     (subst (λ (key : List ℕ). IsSortedByWords (λ i. key_word key i) c.in-OrderOf.count c.in_ok-order-in-OrderOf.order) c.key.ensures
-      c.in_ok-order-in-OrderOf.ensures.sorted)
+    c.in_ok-order-in-OrderOf.ensures.sorted)
