@@ -3,3 +3,9 @@ pub mod Writes
 pub mod Marks
 pub mod Spelling
 pub mod OneAnswer
+pub mod Keyed
+pub mod SortedOrders
+pub mod Making
+pub mod Occurrences
+pub mod SortingPlaces
+pub mod Aligning

@@ -1,5 +1,5 @@
 -- Marking in place: each number that was looked at has set the highest bit at its own place.
-use Rattle.std.proofs.Common.{◌≡◌, ◌≢◌, ℕ, suc, zero, ◌+◌, ◌%◌, ◌^◌, ◌<◌, ◌≤◌, List, length, get_or, set, refl, sym, ◌∙◌, ap, subst, ⊎_elim, inl, inr, arith}
+use Rattle.std.proofs.Common.{◌≡◌, ◌≢◌, ℕ, ◌+◌, ◌%◌, ◌^◌, ◌<◌, ◌≤◌, List, length, get_or, set, refl, sym, ◌∙◌, ap, subst, ⊎_elim, arith}
 use Rattle.std.proofs.lemmas.List.{get_or-set_same, get_or-set_other, length-set}
 use Rattle.std.proofs.lemmas.Bool.{cases_eq}
 use Rattle.tapes.specs.Order.{AllBelow, NoneTwice}
@@ -32,34 +32,34 @@ marks_more s l i p m h e within free =
     record {
       long = length-set l p (get_or l p 0 + 2 ^ 31) ∙ m.long;
       kept = λ k b.
-        ⊎_elim
-        (λ same. subst (λ (n : ℕ). get_or (set l p (get_or l p 0 + 2 ^ 31)) n 0 % 2 ^ 31 ≡ get_or s n 0) (sym same)
+          ⊎_elim
+          (λ same. subst (λ (n : ℕ). get_or (set l p (get_or l p 0 + 2 ^ 31)) n 0 % 2 ^ 31 ≡ get_or s n 0) (sym same)
           (let old : get_or l p 0 % 2 ^ 31 ≡ get_or s p 0 = m.kept p within in omega arith))
-        (λ other. rw (there k other) (m.kept k b))
-        (cases_eq k p);
+          (λ other. rw (there k other) (m.kept k b))
+          (cases_eq k p);
       seen = λ j b.
-        ⊎_elim
-        (λ last. subst (λ (n : ℕ). 2 ^ 31 ≤ get_or (set l p (get_or l p 0 + 2 ^ 31)) n 0) (e ∙ ap (λ n. get_or s n 0) (sym last)) (omega arith))
-        (λ early. let b' : j < i = omega arith in rw (there (get_or s j 0) (new j b')) (m.seen j b'))
-        (cases_eq j i);
+          ⊎_elim
+          (λ last. subst (λ (n : ℕ). 2 ^ 31 ≤ get_or (set l p (get_or l p 0 + 2 ^ 31)) n 0) (e ∙ ap (λ n. get_or s n 0) (sym last)) (omega arith))
+          (λ early. let b' : j < i = omega arith in rw (there (get_or s j 0) (new j b')) (m.seen j b'))
+          (cases_eq j i);
       only = λ k b marked.
-        ⊎_elim
-        (λ same. (i, omega arith, sym e ∙ sym same))
-        (λ other. let old = m.only k b (rw (there k other) at marked) in (old.0, omega (arith, old.1), old.2))
-        (cases_eq k p);
+          ⊎_elim
+          (λ same. (i, omega arith, sym e ∙ sym same))
+          (λ other. let old = m.only k b (rw (there k other) at marked) in (old.0, omega (arith, old.1), old.2))
+          (cases_eq k p);
       apart = λ j k b c q.
-        ⊎_elim
-        (λ j-last.
+          ⊎_elim
+          (λ j-last.
           ⊎_elim
           (λ k-last. j-last ∙ sym k-last)
           (λ k-early. absurd (new k (omega arith) (sym q ∙ ap (λ n. get_or s n 0) j-last ∙ sym e)))
           (cases_eq k i))
-        (λ j-early.
+          (λ j-early.
           ⊎_elim
           (λ k-last. absurd (new j (omega arith) (q ∙ ap (λ n. get_or s n 0) k-last ∙ sym e)))
           (λ k-early. m.apart j k (omega arith) (omega arith) q)
           (cases_eq k i))
-        (cases_eq j i);
+          (cases_eq j i);
     }
 
 -- a place that is marked already belongs to an earlier number too

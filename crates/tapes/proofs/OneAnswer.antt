@@ -1,5 +1,5 @@
 -- Bytes have one answer: one tape, or one first fault.
-use Rattle.std.proofs.Common.{◌≡◌, ℕ, suc, zero, ◌+◌, ◌*◌, ◌<◌, ◌≤◌, ◌^◌, List, [], ◌∷◌, ◌++◌, length, get_or, take, drop, refl, sym, ◌∙◌, ap, subst, ◌⊎◌, inl, inr, Option, Some, None, Result, Ok, Err, slice_get, arith}
+use Rattle.std.proofs.Common.{◌≡◌, ℕ, suc, zero, ◌+◌, ◌*◌, ◌<◌, ◌≤◌, ◌^◌, List, [], ◌∷◌, ◌++◌, length, get_or, take, drop, refl, sym, ◌∙◌, ap, subst, ◌⊎◌, inl, inr, Some, Result, Ok, Err, slice_get, arith}
 use Rattle.std.specs.Int.{w32, w64, to_be_bytes, from_be_bytes}
 use Rattle.std.proofs.lemmas.List.{append-nil, append_assoc, length-append, take_all, drop_all}
 use Rattle.std.proofs.lemmas.Nat.{from_be_bytes-to_be_bytes_4, from_be_bytes-to_be_bytes_8}
@@ -12,7 +12,7 @@ use Rattle.tapes.specs.declared.tape_bytes.TapeFault.TheVariants.{Short, Long, N
 use Rattle.tapes.specs.Order.{IsOrder, IsShortOrder}
 use Rattle.tapes.specs.Bytes.{number_bytes, draw_bytes, tape_bytes}
 use Rattle.tapes.specs.Needs.{Meets, FitsNeeds, width_of}
-use Rattle.tapes.specs.ReadTape.{Begins, AreNoOrder, IsShortAt, IsNoOrderAt, IsLongAt, ReadsTape}
+use Rattle.tapes.specs.ReadTape.{AreNoOrder, ReadsTape}
 
 -- ---- bytes of one draw
 
@@ -41,7 +41,7 @@ same_numbers [] (y ∷ ys) u v e a b h = absurd (omega arith)
 same_numbers (x ∷ xs) [] u v e a b h = absurd (omega arith)
 same_numbers (x ∷ xs) (y ∷ ys) u v e a b h =
     let split = fronts (to_be_bytes w32 x) (to_be_bytes w32 y) (number_bytes xs ++ u) (number_bytes ys ++ v) refl
-        (sym (append_assoc (to_be_bytes w32 x) (number_bytes xs) u) ∙ h ∙ append_assoc (to_be_bytes w32 y) (number_bytes ys) v) in
+    (sym (append_assoc (to_be_bytes w32 x) (number_bytes xs) u) ∙ h ∙ append_assoc (to_be_bytes w32 y) (number_bytes ys) v) in
     let first : x ≡ y = same_number x y (a 0 (omega arith)) (b 0 (omega arith)) split.0 in
     let rest = same_numbers xs ys u v (omega arith) (λ k i. a (suc k) (omega arith)) (λ k i. b (suc k) (omega arith)) split.1 in
     (rw (first, rest.0) refl, rest.1)
@@ -94,23 +94,33 @@ same_stop [] bytes [] (y ∷ b) ra rb fa ea na fb eb nb = absurd fb
 same_stop (n ∷ ns) bytes [] (y ∷ b) ra rb fa ea na fb eb nb =
     absurd
     (na (record {
-      need = n; more = ns; draw = y; after = tape_bytes b ++ rb; left = refl; meets = fb.0;
+      need = n;
+      more = ns;
+      draw = y;
+      after = tape_bytes b ++ rb;
+      left = refl;
+      meets = fb.0;
       spelled = sym ea ∙ eb ∙ append_assoc (draw_bytes y) (tape_bytes b) rb;
     }))
 same_stop [] bytes (x ∷ a) b ra rb fa ea na fb eb nb = absurd fa
 same_stop (n ∷ ns) bytes (x ∷ a) [] ra rb fa ea na fb eb nb =
     absurd
     (nb (record {
-      need = n; more = ns; draw = x; after = tape_bytes a ++ ra; left = refl; meets = fa.0;
+      need = n;
+      more = ns;
+      draw = x;
+      after = tape_bytes a ++ ra;
+      left = refl;
+      meets = fa.0;
       spelled = sym eb ∙ ea ∙ append_assoc (draw_bytes x) (tape_bytes a) ra;
     }))
 same_stop (n ∷ ns) bytes (x ∷ a) (y ∷ b) ra rb fa ea na fb eb nb =
     let split = same_draw n x y (tape_bytes a ++ ra) (tape_bytes b ++ rb) fa.0 fb.0
-        (sym (append_assoc (draw_bytes x) (tape_bytes a) ra) ∙ sym ea ∙ eb ∙ append_assoc (draw_bytes y) (tape_bytes b) rb) in
+    (sym (append_assoc (draw_bytes x) (tape_bytes a) ra) ∙ sym ea ∙ eb ∙ append_assoc (draw_bytes y) (tape_bytes b) rb) in
     let rest = same_stop ns (tape_bytes a ++ ra) a b ra rb fa.1 refl
-        (λ r. na (record { need = r.need; more = r.more; draw = r.draw; after = r.after; left = r.left; meets = r.meets; spelled = r.spelled }))
-        fb.1 split.1
-        (λ r. nb (record { need = r.need; more = r.more; draw = r.draw; after = r.after; left = r.left; meets = r.meets; spelled = r.spelled })) in
+    (λ r. na (record { need = r.need; more = r.more; draw = r.draw; after = r.after; left = r.left; meets = r.meets; spelled = r.spelled }))
+    fb.1 split.1
+    (λ r. nb (record { need = r.need; more = r.more; draw = r.draw; after = r.after; left = r.left; meets = r.meets; spelled = r.spelled })) in
     (rw (split.0, rest.0) refl, rest.1)
 
 -- what is known where reading stops with an answer
@@ -199,7 +209,7 @@ stop needs bytes (Err (Short d)) h =
 stop needs bytes (Err (NotOrder d)) h =
     let left : drop (length h.draws) needs ≡ OrderOf h.count ∷ drop (suc d) needs = ap (λ n. drop n needs) h.number ∙ drop_from_get needs d (OrderOf h.count) h.needed in
     let long : length (number_bytes h.numbers ++ h.rest) ≡ 4 * length h.numbers + length h.rest
-      = length-append (number_bytes h.numbers) h.rest ∙ ap (λ n. n + length h.rest) (length-number_bytes h.numbers) in
+    = length-append (number_bytes h.numbers) h.rest ∙ ap (λ n. n + length h.rest) (length-number_bytes h.numbers) in
     let same : length h.numbers ≡ h.count = h.no_order.count_is in
     inr
     (record {
@@ -240,16 +250,16 @@ same_ends needs draws rest (Err (Short d)) (Err (Short e)) a b = ap (λ x. Err (
 same_ends needs draws rest (Err (Short d)) (Err (NotOrder e)) a b =
     absurd
     (let both : a.1.0 ∷ a.1.1.0 ≡ b.1.0 ∷ b.1.1.0 = sym a.1.1.1 ∙ b.1.1.1 in
-     let same : a.1.0 ≡ b.1.0 = cc in
-     let width : width_of a.1.0 ≡ width_of b.1.0 = ap width_of same in omega (arith, a.1.1.2, b.1.1.2))
+    let same : a.1.0 ≡ b.1.0 = cc in
+    let width : width_of a.1.0 ≡ width_of b.1.0 = ap width_of same in omega (arith, a.1.1.2, b.1.1.2))
 same_ends needs draws rest (Err (Short d)) (Err (Long e)) a b = absurd (left_or_not needs draws a.1.0 a.1.1.0 a.1.1.1 b.1)
 same_ends needs draws rest (Err (Short d)) (Err Memory) a b = absurd b
 same_ends needs draws rest (Err (NotOrder d)) (Ok u) a b = absurd (left_or_not needs draws a.1.0 a.1.1.0 a.1.1.1 b.1)
 same_ends needs draws rest (Err (NotOrder d)) (Err (Short e)) a b =
     absurd
     (let both : a.1.0 ∷ a.1.1.0 ≡ b.1.0 ∷ b.1.1.0 = sym a.1.1.1 ∙ b.1.1.1 in
-     let same : a.1.0 ≡ b.1.0 = cc in
-     let width : width_of a.1.0 ≡ width_of b.1.0 = ap width_of same in omega (arith, a.1.1.2, b.1.1.2))
+    let same : a.1.0 ≡ b.1.0 = cc in
+    let width : width_of a.1.0 ≡ width_of b.1.0 = ap width_of same in omega (arith, a.1.1.2, b.1.1.2))
 same_ends needs draws rest (Err (NotOrder d)) (Err (NotOrder e)) a b = ap (λ x. Err (NotOrder x)) (sym a.0 ∙ b.0)
 same_ends needs draws rest (Err (NotOrder d)) (Err (Long e)) a b = absurd (left_or_not needs draws a.1.0 a.1.1.0 a.1.1.1 b.1)
 same_ends needs draws rest (Err (NotOrder d)) (Err Memory) a b = absurd b
@@ -265,13 +275,13 @@ pub one_answer : (needs : List Need) (bytes : List ℕ) (r s : Result (List Draw
     → (r ≡ s) ⊎ ((r ≡ Err Memory) ⊎ (s ≡ Err Memory))
 one_answer needs bytes r s a b =
     elim (stop needs bytes r a) [
-      inl no_memory ↦ inr (inl no_memory)
-    | inr p ↦ elim (stop needs bytes s b) [
-        inl no_memory ↦ inr (inr no_memory)
-      | inr q ↦
-          let same = same_stop needs bytes p.draws q.draws p.rest q.rest p.fits p.spelled p.unreadable q.fits q.spelled q.unreadable in
-          inl
-          (same_ends needs p.draws p.rest r s p.ends
+      | inl no_memory ↦ inr (inl no_memory)
+      | inr p ↦ elim (stop needs bytes s b) [
+        | inl no_memory ↦ inr (inr no_memory)
+        | inr q ↦
+            let same = same_stop needs bytes p.draws q.draws p.rest q.rest p.fits p.spelled p.unreadable q.fits q.spelled q.unreadable in
+            inl
+            (same_ends needs p.draws p.rest r s p.ends
             (subst (λ (x : List ℕ). EndsAs needs p.draws x s) (sym same.1) (subst (λ (x : List Draw). EndsAs needs x q.rest s) (sym same.0) q.ends)))
       ]
     ]

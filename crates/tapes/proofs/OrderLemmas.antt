@@ -1,5 +1,5 @@
 -- Orders are a group.
-use Rattle.std.proofs.Common.{◌≡◌, ◌≢◌, ℕ, suc, zero, ◌+◌, ◌<◌, ◌≤◌, Bool, true, false, eqb, cond, List, [], ◌∷◌, ◌++◌, length, get_or, set, map, subst, ◌^◌, ◌||◌, refl, sym, ◌∙◌, ap, ⊎_elim, inl, inr, ◌⊎◌, arith, add-one, add-zero}
+use Rattle.std.proofs.Common.{◌≡◌, ◌≢◌, ℕ, suc, zero, ◌+◌, ◌<◌, ◌≤◌, true, false, eqb, List, [], ◌∷◌, ◌++◌, length, get_or, set, subst, ◌^◌, refl, sym, ◌∙◌, ap, ⊎_elim, inl, inr, arith, add-one, add-zero}
 use Rattle.std.specs.List.{range_with_len, list_any, IsDistinct, AllByRecursion}
 use Rattle.std.proofs.lemmas.List.{get_or-map, length-map, get_or_default, ext_get_or, length-set, get_or-set_same, get_or-set_other}
 use Rattle.std.proofs.lemmas.List.FromFn.{length-range_with_len, get_or-range_with_len}
@@ -8,7 +8,7 @@ use Rattle.std.proofs.lemmas.Map.Steps.{length-le_from_distinct_below}
 use Rattle.std.proofs.lemmas.Bool.{cases_lt, cases_eq, ne_eqb}
 use Rattle.std.proofs.lemmas.Bool.Decides.{eqb_tells}
 use Rattle.lanes.specs.Lanes.{picked}
-use Rattle.lanes.proofs.LaneLemmas.{same_words, length-picked, get_or-picked, picked-picked}
+use Rattle.lanes.proofs.LaneLemmas.{length-picked, get_or-picked, picked-picked}
 use Rattle.tapes.specs.Order.{IsOrder, IsShortOrder, identity_of, applied, composed, place_of, inverse_of}
 
 -- ---- the place of a number
@@ -34,8 +34,8 @@ any_below : (o : List ℕ) (n : ℕ) → ((k : ℕ) → k < length o → get_or 
 any_below [] n h q e = absurd (cc)
 any_below (x ∷ xs) n h q e =
     elim (eqb_tells q x) [
-      inl s ↦ let first : x < n = h 0 (omega arith) in omega arith
-    | inr d ↦ any_below xs n (λ k i. h (suc k) (omega arith)) q (rw d.0 at e)
+      | inl s ↦ let first : x < n = h 0 (omega arith) in omega arith
+      | inr d ↦ any_below xs n (λ k i. h (suc k) (omega arith)) q (rw d.0 at e)
     ]
 
 -- no item is v, if its place is past the end
@@ -43,30 +43,30 @@ none_is : (v : ℕ) (o : List ℕ) → length o ≤ place_of v o → AllByRecurs
 none_is v [] h = tt
 none_is v (x ∷ xs) h =
     elim (eqb_tells v x) [
-      inl s ↦ absurd (let g = rw s.0 at h in omega arith)
-    | inr d ↦ (d.0, none_is v xs (let g = rw d.0 at h in omega arith))
+      | inl s ↦ absurd (let g = rw s.0 at h in omega arith)
+      | inr d ↦ (d.0, none_is v xs (let g = rw d.0 at h in omega arith))
     ]
 
 distinct : (o : List ℕ) → IsOrder o → IsDistinct eqb o
 distinct o ok =
     IsDistinct-from_apart eqb o
     (λ i j d below within. ne_eqb (get_or o i d) (get_or o j d)
-      (λ e. absurd (let same : i ≡ j = ok.apart i j (omega arith) within (rw (get_or_default o i 0 d (omega arith), get_or_default o j 0 d within) e) in omega arith)))
+    (λ e. absurd (let same : i ≡ j = ok.apart i j (omega arith) within (rw (get_or_default o i 0 d (omega arith), get_or_default o j 0 d within) e) in omega arith)))
 
 -- the place of a number below the length is within the order
 pub place_of-within : (o : List ℕ) → IsOrder o → (v : ℕ) → v < length o → place_of v o < length o
 place_of-within o ok v h =
     ⊎_elim (λ i. i)
     (λ past. absurd
-      (let long : length (v ∷ o) ≤ length o
-         = length-le_from_distinct_below (v ∷ o) (length o) (IsDistinct-cons eqb v o (none_is v o past) (distinct o ok))
-           (any_below (v ∷ o) (length o) (below_cons v o ok h))
-       in omega arith))
+    (let long : length (v ∷ o) ≤ length o
+    = length-le_from_distinct_below (v ∷ o) (length o) (IsDistinct-cons eqb v o (none_is v o past) (distinct o ok))
+    (any_below (v ∷ o) (length o) (below_cons v o ok h))
+    in omega arith))
     (cases_lt (place_of v o) (length o))
   where
-  below_cons : (v : ℕ) (o : List ℕ) → IsOrder o → v < length o → (k : ℕ) → k < length (v ∷ o) → get_or (v ∷ o) k 0 < length o
-  below_cons v o ok h zero i = h
-  below_cons v o ok h (suc k) i = ok.below k (omega arith)
+    below_cons : (v : ℕ) (o : List ℕ) → IsOrder o → v < length o → (k : ℕ) → k < length (v ∷ o) → get_or (v ∷ o) k 0 < length o
+    below_cons v o ok h zero i = h
+    below_cons v o ok h (suc k) i = ok.below k (omega arith)
 
 pub place_of-is : (o : List ℕ) → IsOrder o → (v : ℕ) → v < length o → get_or o (place_of v o) 0 ≡ v
 place_of-is o ok v h = place_of-found v o (place_of-within o ok v h)
@@ -89,23 +89,23 @@ pub IsOrder-identity : (n : ℕ) → IsOrder (identity_of n)
 IsOrder-identity n = record {
   below = λ k h. let within : k < n = omega (arith, length-identity n) in rw (length-identity n, get_or-identity n k within) within;
   apart = λ i j h g e.
-    let a : i < n = omega (arith, length-identity n) in
-    let b : j < n = omega (arith, length-identity n) in
-    sym (get_or-identity n i a) ∙ e ∙ get_or-identity n j b;
+      let a : i < n = omega (arith, length-identity n) in
+      let b : j < n = omega (arith, length-identity n) in
+      sym (get_or-identity n i a) ∙ e ∙ get_or-identity n j b;
 }
 
 pub identity_left : (o : List ℕ) → IsOrder o → composed (identity_of (length o)) o ≡ o
 identity_left o ok =
     ext_get_or 0 (picked o (identity_of (length o))) o (length-picked o (identity_of (length o)))
     (λ k h. let within : k < length o = omega (arith, length-picked o (identity_of (length o))) in
-      get_or-picked o (identity_of (length o)) k within ∙ get_or-identity (length o) (get_or o k 0) (ok.below k within))
+    get_or-picked o (identity_of (length o)) k within ∙ get_or-identity (length o) (get_or o k 0) (ok.below k within))
 
 -- any list is as it was under the identity of its length
 pub identity_right : (xs : List ℕ) (n : ℕ) → n ≡ length xs → picked (identity_of n) xs ≡ xs
 identity_right xs n e =
     ext_get_or 0 (picked (identity_of n) xs) xs (length-picked (identity_of n) xs ∙ length-identity n ∙ e)
     (λ k h. let within : k < n = omega (arith, length-picked (identity_of n) xs, length-identity n) in
-      get_or-picked (identity_of n) xs k (rw (length-identity n) within) ∙ ap (λ i. get_or xs i 0) (get_or-identity n k within))
+    get_or-picked (identity_of n) xs k (rw (length-identity n) within) ∙ ap (λ i. get_or xs i 0) (get_or-identity n k within))
 
 -- ---- one order and then another one
 
@@ -115,17 +115,17 @@ length-composed a b = length-picked b a
 pub IsOrder-composed : (a b : List ℕ) → IsOrder a → IsOrder b → length a ≡ length b → IsOrder (composed a b)
 IsOrder-composed a b p q e = record {
   below = λ k h.
-    let within : k < length b = omega (arith, length-picked b a) in
-    rw (length-picked b a, get_or-picked b a k within)
-    (let inner : get_or b k 0 < length b = q.below k within in
-     let outer : get_or a (get_or b k 0) 0 < length a = p.below (get_or b k 0) (omega arith) in omega arith);
+      let within : k < length b = omega (arith, length-picked b a) in
+      rw (length-picked b a, get_or-picked b a k within)
+      (let inner : get_or b k 0 < length b = q.below k within in
+      let outer : get_or a (get_or b k 0) 0 < length a = p.below (get_or b k 0) (omega arith) in omega arith);
   apart = λ i j h g s.
-    let x : i < length b = omega (arith, length-picked b a) in
-    let y : j < length b = omega (arith, length-picked b a) in
-    let u : get_or b i 0 < length b = q.below i x in
-    let v : get_or b j 0 < length b = q.below j y in
-    q.apart i j x y
-    (p.apart (get_or b i 0) (get_or b j 0) (omega arith) (omega arith) (sym (get_or-picked b a i x) ∙ s ∙ get_or-picked b a j y));
+      let x : i < length b = omega (arith, length-picked b a) in
+      let y : j < length b = omega (arith, length-picked b a) in
+      let u : get_or b i 0 < length b = q.below i x in
+      let v : get_or b j 0 < length b = q.below j y in
+      q.apart i j x y
+      (p.apart (get_or b i 0) (get_or b j 0) (omega arith) (omega arith) (sym (get_or-picked b a i x) ∙ s ∙ get_or-picked b a j y));
 }
 
 -- items that are picked after one order and then another one
@@ -149,29 +149,29 @@ get_or-inverse o v h =
 pub IsOrder-inverse : (o : List ℕ) → IsOrder o → IsOrder (inverse_of o)
 IsOrder-inverse o ok = record {
   below = λ k h.
-    let within : k < length o = omega (arith, length-inverse o) in
-    rw (length-inverse o, get_or-inverse o k within) (place_of-within o ok k within);
+      let within : k < length o = omega (arith, length-inverse o) in
+      rw (length-inverse o, get_or-inverse o k within) (place_of-within o ok k within);
   apart = λ i j h g s.
-    let a : i < length o = omega (arith, length-inverse o) in
-    let b : j < length o = omega (arith, length-inverse o) in
-    sym (place_of-is o ok i a) ∙ ap (λ w. get_or o w 0) (sym (get_or-inverse o i a) ∙ s ∙ get_or-inverse o j b) ∙ place_of-is o ok j b;
+      let a : i < length o = omega (arith, length-inverse o) in
+      let b : j < length o = omega (arith, length-inverse o) in
+      sym (place_of-is o ok i a) ∙ ap (λ w. get_or o w 0) (sym (get_or-inverse o i a) ∙ s ∙ get_or-inverse o j b) ∙ place_of-is o ok j b;
 }
 
 pub inverse_right : (o : List ℕ) → IsOrder o → composed o (inverse_of o) ≡ identity_of (length o)
 inverse_right o ok =
     ext_get_or 0 (picked (inverse_of o) o) (identity_of (length o)) (length-picked (inverse_of o) o ∙ length-inverse o ∙ sym (length-identity (length o)))
     (λ k h.
-      let within : k < length o = omega (arith, length-picked (inverse_of o) o, length-inverse o) in
-      get_or-picked (inverse_of o) o k (rw (length-inverse o) within) ∙ ap (λ w. get_or o w 0) (get_or-inverse o k within)
-      ∙ place_of-is o ok k within ∙ sym (get_or-identity (length o) k within))
+    let within : k < length o = omega (arith, length-picked (inverse_of o) o, length-inverse o) in
+    get_or-picked (inverse_of o) o k (rw (length-inverse o) within) ∙ ap (λ w. get_or o w 0) (get_or-inverse o k within)
+    ∙ place_of-is o ok k within ∙ sym (get_or-identity (length o) k within))
 
 pub inverse_left : (o : List ℕ) → IsOrder o → composed (inverse_of o) o ≡ identity_of (length o)
 inverse_left o ok =
     ext_get_or 0 (picked o (inverse_of o)) (identity_of (length o)) (length-picked o (inverse_of o) ∙ sym (length-identity (length o)))
     (λ k h.
-      let within : k < length o = omega (arith, length-picked o (inverse_of o)) in
-      get_or-picked o (inverse_of o) k within ∙ get_or-inverse o (get_or o k 0) (ok.below k within)
-      ∙ place_of-at o ok k within ∙ sym (get_or-identity (length o) k within))
+    let within : k < length o = omega (arith, length-picked o (inverse_of o)) in
+    get_or-picked o (inverse_of o) k within ∙ get_or-inverse o (get_or o k 0) (ok.below k within)
+    ∙ place_of-at o ok k within ∙ sym (get_or-identity (length o) k within))
 
 -- a list that gives the identity after an order is its inverse
 pub only_inverse : (o p : List ℕ) → IsOrder o → length p ≡ length o → ((k : ℕ) → k < length p → get_or p k 0 < length o)
@@ -179,9 +179,9 @@ pub only_inverse : (o p : List ℕ) → IsOrder o → length p ≡ length o → 
 only_inverse o p ok e small is =
     ext_get_or 0 p (inverse_of o) (e ∙ sym (length-inverse o))
     (λ k h.
-      let within : k < length o = omega arith in
-      let there : get_or o (get_or p k 0) 0 ≡ k = sym (get_or-picked p o k h) ∙ ap (λ w. get_or w k 0) is ∙ get_or-identity (length o) k within in
-      sym (place_of-at o ok (get_or p k 0) (small k h)) ∙ ap (λ w. place_of w o) there ∙ sym (get_or-inverse o k within))
+    let within : k < length o = omega arith in
+    let there : get_or o (get_or p k 0) 0 ≡ k = sym (get_or-picked p o k h) ∙ ap (λ w. get_or w k 0) is ∙ get_or-identity (length o) k within in
+    sym (place_of-at o ok (get_or p k 0) (small k h)) ∙ ap (λ w. place_of w o) there ∙ sym (get_or-inverse o k within))
 
 -- the first i numbers of an order have written where they stand
 pub record PlacesBack (o r : List ℕ) (i : ℕ) : Type 0 where
@@ -194,30 +194,30 @@ places_back_more o r i ok p h =
     record {
       long = length-set r (get_or o i 0) i ∙ p.long;
       back = λ k b.
-        ⊎_elim
-        (λ same. subst (λ (n : ℕ). get_or (set r (get_or o i 0) i) (get_or o n 0) 0 ≡ n) (sym same) (get_or-set_same r (get_or o i 0) i 0 within))
-        (λ other.
+          ⊎_elim
+          (λ same. subst (λ (n : ℕ). get_or (set r (get_or o i 0) i) (get_or o n 0) 0 ≡ n) (sym same) (get_or-set_same r (get_or o i 0) i 0 within))
+          (λ other.
           let early : k < i = omega arith in
           let apart : get_or o k 0 ≢ get_or o i 0 = λ e. other (ok.apart k i (omega arith) h e) in
           get_or-set_other r (get_or o i 0) (get_or o k 0) i 0 apart ∙ p.back k early)
-        (cases_eq k i);
+          (cases_eq k i);
     }
 
 pub places_back_all : (o r : List ℕ) (i : ℕ) → IsOrder o → PlacesBack o r i → length o ≤ i → r ≡ inverse_of o
 places_back_all o r i ok p h =
     ext_get_or 0 r (inverse_of o) (p.long ∙ sym (length-inverse o))
     (λ v b.
-      let within : v < length o = omega (arith, p.long) in
-      let place : place_of v o < length o = place_of-within o ok v within in
-      ap (λ n. get_or r n 0) (sym (place_of-is o ok v within)) ∙ p.back (place_of v o) (omega arith) ∙ sym (get_or-inverse o v within))
+    let within : v < length o = omega (arith, p.long) in
+    let place : place_of v o < length o = place_of-within o ok v within in
+    ap (λ n. get_or r n 0) (sym (place_of-is o ok v within)) ∙ p.back (place_of v o) (omega arith) ∙ sym (get_or-inverse o v within))
 
 -- an order whose numbers have 32 bits is short
 pub short_from_numbers : (o : List ℕ) → IsOrder o → ((k : ℕ) → k < length o → get_or o k 0 < 2 ^ 32) → length o ≤ 2 ^ 32
 short_from_numbers o ok small =
     ⊎_elim
     (λ long. absurd
-      (let b : get_or o (place_of (2 ^ 32) o) 0 < 2 ^ 32 = small (place_of (2 ^ 32) o) (place_of-within o ok (2 ^ 32) long) in
-       let e : get_or o (place_of (2 ^ 32) o) 0 ≡ 2 ^ 32 = place_of-is o ok (2 ^ 32) long in omega arith))
+    (let b : get_or o (place_of (2 ^ 32) o) 0 < 2 ^ 32 = small (place_of (2 ^ 32) o) (place_of-within o ok (2 ^ 32) long) in
+    let e : get_or o (place_of (2 ^ 32) o) 0 ≡ 2 ^ 32 = place_of-is o ok (2 ^ 32) long in omega arith))
     (λ short. short)
     (cases_lt (2 ^ 32) (length o))
 

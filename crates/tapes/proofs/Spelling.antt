@@ -1,5 +1,5 @@
 -- What bytes begin with, one number or draw further.
-use Rattle.std.proofs.Common.{◌≡◌, ℕ, suc, zero, ◌+◌, ◌*◌, ◌<◌, ◌≤◌, ◌^◌, List, [], ◌∷◌, ◌++◌, length, get_or, take, drop, slice_get, Some, refl, sym, ◌∙◌, ap, subst, arith, add-one, lit<}
+use Rattle.std.proofs.Common.{◌≡◌, ℕ, suc, zero, ◌+◌, ◌<◌, ◌^◌, List, [], ◌∷◌, ◌++◌, length, get_or, take, drop, slice_get, Some, sym, ◌∙◌, ap, subst, arith, add-one, lit<}
 use Rattle.std.specs.Int.{w32, to_be_bytes}
 use Rattle.std.proofs.lemmas.List.{append-nil, append_assoc, drop-drop, length_push}
 use Rattle.std.proofs.lemmas.List.Concat.{flat_map-append}
@@ -39,7 +39,7 @@ begins_more needs bytes ds rest after need d b h e m r = record {
   within = omega (arith, length_push ds d);
   fits = rw (length_push ds d, add-one) (fits_more needs ds need d h e b.fits m);
   spelled = b.spelled ∙ ap (λ bs. tape_bytes ds ++ bs) r ∙ sym (append_assoc (tape_bytes ds) (draw_bytes d) after)
-    ∙ ap (λ bs. bs ++ after) (sym (tape_bytes_more ds d));
+      ∙ ap (λ bs. bs ++ after) (sym (tape_bytes_more ds d));
 }
 
 -- numbers of 32 bits, and one more

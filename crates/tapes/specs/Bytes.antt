@@ -1,6 +1,6 @@
 -- The bytes of a tape: a word is 8 bytes, an order of n is n numbers of 4 bytes, high byte first, one
 -- draw after the other with nothing between them.
-use Rattle.std.specs.Prelude.{ℕ, ◌*◌, List}
+use Rattle.std.specs.Prelude.{ℕ, List}
 use Rattle.std.specs.Int.{w32, w64, to_be_bytes}
 use Rattle.std.specs.List.{flat_map}
 use Rattle.tapes.specs.declared.draw.Draw.{Draw}

@@ -4,6 +4,8 @@ use Rattle.tapes.specs.declared.draw.Need.{Need}
 use Rattle.tapes.specs.declared.draw.Need.TheVariants.{Word as NeedsWord, OrderOf}
 use Rattle.tapes.specs.declared.draw.Draw.{Draw}
 use Rattle.tapes.specs.declared.draw.Draw.TheVariants.{Word, Order}
+use Rattle.tapes.specs.declared.draw.Schedule.{Schedule}
+use Rattle.tapes.specs.declared.tape.Tapes.{Tapes}
 use Rattle.tapes.specs.Order.{IsShortOrder}
 
 -- a word below 2 ^ 64, or an order of so many items
@@ -24,3 +26,9 @@ FitsNeeds (n ∷ ns) (d ∷ ds) = Meets n d × FitsNeeds ns ds
 abbrev pub width_of : Need → ℕ
 width_of NeedsWord = 8
 width_of (OrderOf n) = 4 * n
+
+-- each of the three tapes has the draws that the schedule needs of it
+pub record FitsSchedule (schedule : Schedule) (tapes : Tapes) : Type 0 where
+  pub first : FitsNeeds schedule.first.items tapes.first
+  pub second : FitsNeeds schedule.second.items tapes.second
+  pub third : FitsNeeds schedule.third.items tapes.third

@@ -1,5 +1,5 @@
 -- What the bytes of a tape read as: the tape, or the first fault in the order of draws.
-use Rattle.std.specs.Prelude.{◌≡◌, ◌⊎◌, ℕ, ◌<◌, ◌≤◌, ◌^◌, ⊤, List, ◌++◌, length, take, slice_get, slice_index, Option, Some, Result, Ok, Err}
+use Rattle.std.specs.Prelude.{◌≡◌, ◌⊎◌, ℕ, ◌<◌, ◌≤◌, ◌^◌, ⊤, List, ◌++◌, length, take, slice_get, slice_index, Some, Result, Ok, Err}
 use Rattle.tapes.specs.declared.draw.Need.{Need}
 use Rattle.tapes.specs.declared.draw.Need.TheVariants.{OrderOf}
 use Rattle.tapes.specs.declared.draw.Draw.{Draw}

@@ -43,7 +43,7 @@ impl<'a> Cursor<'a> {
                 self.place += 1;
                 Some(*word)
             }
-            _ => None,
+            Some(Draw::Order(_)) | None => None,
         }
     }
 
@@ -58,7 +58,7 @@ impl<'a> Cursor<'a> {
                 self.place += 1;
                 Some(order)
             }
-            _ => None,
+            Some(Draw::Word(_)) | None => None,
         }
     }
 }

@@ -1,16 +1,31 @@
-//! Private random choices of a run, recorded: orders, draws, tapes and their bytes.
+//! Private random choices of a run, recorded: orders, draws, tapes, their bytes, tapes from a seed,
+//! and the order that aligns two lists of rows.
+//!
+//! It stands on `lanes` (words picked by places) and `bags` (rows as bags). An `Order` is seen as a
+//! list of numbers that is a permutation of those below its length, a `Tape` as its list of draws,
+//! a `Cursor` as that list and a place in it. Orders are a group (`order_laws`), bytes have one tape
+//! or one first fault (`read_tape`), a seed has one tape for its needs (`make_tapes`, `made_laws`).
 #![tactic(auto)]
 
+mod align_rows;
 mod cursor;
 mod draw;
+mod laws;
+mod make;
 mod marking;
 mod order;
+mod pairs;
 mod read_draw;
 mod tape;
 mod tape_bytes;
+#[cfg(test)]
+mod tests;
 
+pub use align_rows::{AlignFault, align};
 pub use cursor::Cursor;
 pub use draw::{Draw, Need, Schedule};
+pub use laws::{align_laws, made_laws, order_laws};
+pub use make::make_tapes;
 pub use order::Order;
 pub use tape::{Tape, Tapes};
-pub use tape_bytes::TapeFault;
+pub use tape_bytes::{TapeFault, read_tape, write_tape};

@@ -1,5 +1,5 @@
 ghost use Rattle.std.specs.Prelude.{◌≡◌, ℕ, ◌<◌, ◌≤◌, ◌^◌, ◌↔◌, IsTrue, IsOk, IfOk, IfErr, length, slice_index};
-ghost use Rattle.tapes.specs.Order.{IsOrder, identity_of, applied, composed, inverse_of};
+ghost use Rattle.tapes.specs.Order.{IsOrder, IsShortOrder, identity_of, applied, composed, inverse_of};
 
 use crate::marking::is_order;
 use std::alloc::{AllocError, Global};
@@ -35,6 +35,14 @@ impl Order {
         } else {
             Err(places)
         }
+    }
+
+    /// The order of a list that is known to be one.
+    pub(crate) fn from_permutation(places: Vec<u32>) -> Order
+        requires { IsShortOrder places.items }
+        ensures { result ≡ places.items }
+    {
+        Order { places }
     }
 
     /// The order that leaves each of `n` items in its place.

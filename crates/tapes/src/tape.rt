@@ -1,4 +1,4 @@
-ghost use Rattle.std.specs.Prelude.{◌≡◌, ◌++◌, Ok, IfOk, length, slice_get};
+ghost use Rattle.std.specs.Prelude.{◌≡◌, ◌↔◌, [], IsTrue, Ok, IfOk, length, slice_get};
 ghost use Rattle.std.specs.Option.{option_copied};
 
 use crate::cursor::Cursor;
@@ -68,6 +68,13 @@ impl Tape {
         ensures { result ≡ length self.now }
     {
         self.draws.len()
+    }
+
+    /// Whether it has no draw.
+    pub fn is_empty(&self) -> bool
+        ensures { IsTrue result ↔ (self.now ≡ []) }
+    {
+        self.draws.is_empty()
     }
 
     /// A reader that stands before the first draw.

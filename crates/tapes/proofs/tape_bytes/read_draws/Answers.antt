@@ -14,11 +14,12 @@ loop-i-preserved c =
     let place : need ≡ get_or needs (length draws) need = subst (λ (n : ℕ). need ≡ get_or needs n need) (sym count) c.index-need.ensures in
     let read = rw c.in-Some.is at c.in_ok-draw.ensures in
     let left : c.after-rest.result.now ≡ drop (width_of need) c.loop-i.rest.now
-      = c.after-rest.ensures ∙ ap (λ n. drop n c.loop-i.rest.now) c.width-taken.ensures in
-    (omega (arith, c.in_ok-push-in-Some.ensures.len, count),
+    = c.after-rest.ensures ∙ ap (λ n. drop n c.loop-i.rest.now) c.width-taken.ensures in (
+      omega (arith, c.in_ok-push-in-Some.ensures.len, count),
       rw c.in_ok-push-in-Some.ensures.items
-      (begins_more needs c.args.bytes.now draws c.loop-i.rest.now c.after-rest.result.now need c.in-Some.draw c.loop-i.invariant.1 more place
-        read.0 (read.1 ∙ ap (λ bs. draw_bytes c.in-Some.draw ++ bs) (sym left))))
+          (begins_more needs c.args.bytes.now draws c.loop-i.rest.now c.after-rest.result.now need c.in-Some.draw c.loop-i.invariant.1 more place
+          read.0 (read.1 ∙ ap (λ bs. draw_bytes c.in-Some.draw ++ bs) (sym left))),
+    )
 
 pub returns-in-None : goal.returns-in-None
 returns-in-None c =

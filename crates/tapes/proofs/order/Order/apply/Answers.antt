@@ -1,4 +1,4 @@
-use Rattle.std.proofs.Common.{◌≡◌, ℕ, ◌<◌, ◌++◌, length, get_or, set, take, drop, ap, sym, ◌∙◌, arith}
+use Rattle.std.proofs.Common.{◌≡◌, ◌<◌, length, get_or, ap, sym, ◌∙◌, arith}
 use Rattle.std.proofs.lemmas.List.{get_or_read}
 use Rattle.lanes.proofs.LaneLemmas.{get_or-picked, length-picked}
 use Rattle.tapes.specs.Order.{applied}
@@ -12,6 +12,6 @@ loop-i-preserved c =
     let within : c.loop-i.i < length order = omega arith in
     let place : c.index.result.now ≡ get_or order c.loop-i.i 0 = get_or_read order c.loop-i.i c.index.result.now within c.index.ensures 0 in
     let word : get_or c.args.source.now c.index.result.now 0 ≡ get_or (applied order c.args.source.now) c.loop-i.i 0
-      = ap (λ p. get_or c.args.source.now p 0) place ∙ sym (get_or-picked order c.args.source.now c.loop-i.i within) in
+    = ap (λ p. get_or c.args.source.now p 0) place ∙ sym (get_or-picked order c.args.source.now c.loop-i.i within) in
     rw (word, c.loop-i.invariant)
     (written_more (applied order c.args.source.now) c.args.into.now c.loop-i.i 0 (length-picked order c.args.source.now ∙ long) c.loop-i-test.true)

@@ -1,4 +1,4 @@
-use Rattle.std.proofs.Common.{◌≤◌, ◌^◌, refl, arith}
+use Rattle.std.proofs.Common.{refl, arith}
 use Rattle.tapes.proofs.OrderLemmas.{identity_more, short_identity}
 use Rattle.tapes.proofs.order.Order.identity.Goals as goal
 

@@ -1,8 +1,7 @@
-use Rattle.std.proofs.Common.{◌≡◌, ◌≤◌, length, ap, sym, ◌∙◌, arith}
+use Rattle.std.proofs.Common.{ap, ◌∙◌, arith}
 use Rattle.tapes.proofs.OrderLemmas.{places_back_all, short_inverse}
 use Rattle.tapes.specs.Order.{inverse_of}
 use Rattle.tapes.proofs.order.Order.inverse.Goals as goal
-
 
 pub invariant_of-result : goal.invariant_of-result
 invariant_of-result c =

@@ -1,4 +1,4 @@
-use Rattle.std.proofs.Common.{◌≡◌, length, drop, sym, ◌∙◌, arith}
+use Rattle.std.proofs.Common.{◌≡◌, length, drop, ◌∙◌, arith}
 use Rattle.std.proofs.lemmas.List.{take_at}
 use Rattle.tapes.proofs.order.Order.new.Goals as goal
 

@@ -1,0 +1,254 @@
+use crate::{
+    AlignFault, Draw, Need, Order, Schedule, Tape, TapeFault, align, make_tapes, read_tape,
+    write_tape,
+};
+use rand::rngs::StdRng;
+use rand::seq::SliceRandom;
+use rand::{RngExt, SeedableRng};
+use rand_chacha::ChaCha20Rng;
+use rand_core::utils::NextWord;
+use std::test::Fail;
+
+// The word of a draw, and the numbers of one.
+fn word_at(tape: &Tape, index: usize) -> Option<u64> {
+    match tape.draw(index) {
+        Some(Draw::Word(word)) => Some(*word),
+        _ => None,
+    }
+}
+
+fn places_at(tape: &Tape, index: usize) -> Option<&[u32]> {
+    match tape.draw(index) {
+        Some(Draw::Order(order)) => Some(order.places()),
+        _ => None,
+    }
+}
+
+#[test]
+fn lists_that_are_no_order_come_back(rt: HostRuntime) -> Result<(), Fail> {
+    let cases: [(&[u32], bool); 7] = [
+        (&[], true),
+        (&[0], true),
+        (&[2, 0, 1], true),
+        (&[1], false),
+        (&[0, 0], false),
+        (&[0, 3, 1], false),
+        (&[1, 2, 1], false),
+    ];
+    for (numbers, is_order) in cases {
+        match Order::new(numbers.to_vec(rt.alloc())?) {
+            Ok(order) => {
+                assert!(rt; is_order, "{numbers:?}");
+                assert_eq!(rt; order.places(), numbers);
+            }
+            Err(back) => {
+                assert!(rt; !is_order, "{numbers:?}");
+                assert_eq!(rt; back.as_slice(), numbers);
+            }
+        }
+    }
+    Ok(())
+}
+
+// The bytes of a word 5 and the order 2 0 1, and what becomes of them when they are changed.
+#[test]
+fn tapes_are_read_and_written(rt: HostRuntime) -> Result<(), Fail> {
+    let bytes: [u8; 20] = [0, 0, 0, 0, 0, 0, 0, 5, 0, 0, 0, 2, 0, 0, 0, 0, 0, 0, 0, 1];
+    let needs = vec![in rt.alloc(); Need::Word, Need::OrderOf(3)]?;
+    let tape = read_tape(rt.alloc(), &bytes, &needs)?;
+    assert_eq!(rt; tape.len(), 2);
+    assert_eq!(rt; word_at(&tape, 0), Some(5));
+    assert_eq!(rt; places_at(&tape, 1), Some([2, 0, 1].as_slice()));
+    assert!(rt; tape.draw(2).is_none());
+    assert_eq!(rt; write_tape(rt.alloc(), &tape)?.as_slice(), bytes.as_slice());
+    let copy = tape.copy(rt.alloc())?;
+    assert_eq!(rt; write_tape(rt.alloc(), &copy)?.as_slice(), bytes.as_slice());
+
+    let mut cursor = copy.cursor();
+    assert!(rt; cursor.next_order().is_none());
+    assert_eq!(rt; cursor.next_word(), Some(5));
+    assert_eq!(rt; cursor.next_word(), None);
+    assert!(rt; cursor.next_order().is_some());
+    assert_eq!(rt; cursor.next_word(), None);
+
+    let mut longer = bytes.to_vec(rt.alloc())?;
+    longer.push(0)?;
+    let mut repeated = bytes;
+    repeated[19] = 0;
+    let mut nested = bytes;
+    nested[11] = 3;
+    let cases: [(&[u8], TapeFault); 6] = [
+        (&bytes[..19], TapeFault::Short { at: 1 }),
+        (&bytes[..8], TapeFault::Short { at: 1 }),
+        (&bytes[..7], TapeFault::Short { at: 0 }),
+        (&longer, TapeFault::Long { at: 2 }),
+        (&repeated, TapeFault::NotOrder { at: 1 }),
+        (&nested, TapeFault::NotOrder { at: 1 }),
+    ];
+    for (changed, fault) in cases {
+        match read_tape(rt.alloc(), changed, &needs) {
+            Ok(_) => assert!(rt; false, "{fault:?}"),
+            Err(found) => assert_eq!(rt; found, fault),
+        }
+    }
+    Ok(())
+}
+
+// The first 16 bytes of the published key stream of the zero key are
+// 76 b8 e0 ad a0 f1 3d 90 40 5d 6a e5 53 86 bd 28, words of 32 bits low byte first.
+#[test]
+fn words_of_the_zero_key_are_the_published_ones(rt: HostRuntime) {
+    let mut words = ChaCha20Rng::from_seed([0; 32]);
+    for word in [0xade0_b876u32, 0x903d_f1a0, 0xe56a_5d40, 0x28bd_8653] {
+        assert_eq!(rt; words.next_word(), word);
+    }
+}
+
+fn three(rt: &HostRuntime, needs: &[Need]) -> Result<Schedule, Fail> {
+    let first = needs.to_vec(rt.alloc())?;
+    let second = needs.to_vec(rt.alloc())?;
+    let third = needs.to_vec(rt.alloc())?;
+    Ok(Schedule {
+        first,
+        second,
+        third,
+    })
+}
+
+// What `bench/tape_values.py 7` prints, which knows nothing of this crate.
+#[test]
+fn tapes_of_a_seed_are_the_scripts(rt: HostRuntime) -> Result<(), Fail> {
+    let schedule = three(&rt, &[Need::Word, Need::OrderOf(3), Need::Word])?;
+    let tapes = make_tapes(rt.alloc(), &schedule, 7)?;
+    let cases: [(&Tape, u64, &[u32], u64); 3] = [
+        (
+            &tapes.first,
+            0x8e6c_ab0c_9a6e_36ce,
+            &[0, 2, 1],
+            0xc9d4_478b_0a21_3b9d,
+        ),
+        (
+            &tapes.second,
+            0xd0a2_3af9_bfb0_dc81,
+            &[0, 2, 1],
+            0xe0d1_a9e4_ddd8_ce37,
+        ),
+        (
+            &tapes.third,
+            0x837c_24c6_d05c_2aa6,
+            &[2, 0, 1],
+            0xc613_8b62_5029_848c,
+        ),
+    ];
+    for (tape, word, places, last) in cases {
+        assert_eq!(rt; tape.len(), 3);
+        assert_eq!(rt; word_at(tape, 0), Some(word));
+        assert_eq!(rt; places_at(tape, 1), Some(places));
+        assert_eq!(rt; word_at(tape, 2), Some(last));
+    }
+    Ok(())
+}
+
+#[test]
+fn a_seed_gives_the_same_tapes_again(rt: HostRuntime) -> Result<(), Fail> {
+    let schedule = three(&rt, &[Need::OrderOf(8), Need::OrderOf(8)])?;
+    let mut moved = 0u32;
+    for seed in 1..21 {
+        let once = make_tapes(rt.alloc(), &schedule, seed)?;
+        let again = make_tapes(rt.alloc(), &schedule, seed)?;
+        for (tape, other) in [
+            (&once.first, &again.first),
+            (&once.second, &again.second),
+            (&once.third, &again.third),
+        ] {
+            let bytes = write_tape(rt.alloc(), tape)?;
+            assert_eq!(rt; bytes.as_slice(), write_tape(rt.alloc(), other)?.as_slice());
+            if places_at(tape, 0) != Some([0, 1, 2, 3, 4, 5, 6, 7].as_slice()) && moved < 100 {
+                moved += 1;
+            }
+        }
+    }
+    assert!(rt; moved > 0);
+    Ok(())
+}
+
+fn shuffled(rt: &HostRuntime, random: &mut StdRng, count: u32) -> Result<Order, Fail> {
+    let mut numbers = Vec::new(rt.alloc());
+    for i in 0..count {
+        numbers.push(i)?;
+    }
+    numbers.as_mut_slice().shuffle(random);
+    match Order::new(numbers) {
+        Ok(order) => Ok(order),
+        Err(_) => Err("no order")?,
+    }
+}
+
+#[test]
+fn random_orders_are_a_group(rt: HostRuntime) -> Result<(), Fail> {
+    let mut random = StdRng::seed_from_u64(8);
+    for count in [0, 1, 2, 7, 64, 200] {
+        let first = shuffled(&rt, &mut random, count)?;
+        let second = shuffled(&rt, &mut random, count)?;
+        let identity = Order::identity(rt.alloc(), count)?;
+        assert_eq!(rt; identity.len(), count as usize);
+        assert_eq!(rt; first.len(), second.len());
+        let back = first.inverse(rt.alloc())?;
+        assert_eq!(rt; back.len(), first.len());
+        assert_eq!(rt; first.then(rt.alloc(), &back)?.places(), identity.places());
+        assert_eq!(rt; back.then(rt.alloc(), &first)?.places(), identity.places());
+        assert_eq!(rt; first.copy(rt.alloc())?.places(), first.places());
+
+        let mut words = vec![in rt.alloc(); 0u64; first.len()]?;
+        for word in words.iter_mut() {
+            *word = random.random_range(0..1000);
+        }
+        let mut once = vec![in rt.alloc(); 0u64; first.len()]?;
+        let mut twice = vec![in rt.alloc(); 0u64; first.len()]?;
+        let mut both = vec![in rt.alloc(); 0u64; first.len()]?;
+        first.apply(&words, &mut once);
+        second.apply(&once, &mut twice);
+        first.then(rt.alloc(), &second)?.apply(&words, &mut both);
+        assert_eq!(rt; twice.as_slice(), both.as_slice());
+    }
+    Ok(())
+}
+
+// Rows of one word below 5, so that many are equal.
+#[test]
+fn rows_with_repeats_are_aligned(rt: HostRuntime) -> Result<(), Fail> {
+    let mut random = StdRng::seed_from_u64(9);
+    for count in [0usize, 1, 3, 50, 200] {
+        let mut source = Vec::new(rt.alloc());
+        for _ in 0..count {
+            source.push(vec![in rt.alloc(); random.random_range(0u64..5)]?)?;
+        }
+        let mut target = Vec::new(rt.alloc());
+        for row in &source {
+            target.push(Vec::from_slice(rt.alloc(), row)?)?;
+        }
+        target.as_mut_slice().shuffle(&mut random);
+        assert!(rt; source.len() < 1000 && target.len() < 1000);
+        let order = align(rt.alloc(), &source, &target)?;
+        let back = align(rt.alloc(), &target, &source)?;
+        assert_eq!(rt; back.places(), order.inverse(rt.alloc())?.places());
+        let mut seen: Vec<(u64, u32)> = Vec::new(rt.alloc());
+        for (place, row) in order.places().iter().zip(&target) {
+            let from = source.get(*place as usize).ok_or("a place past the end")?;
+            assert_eq!(rt; from.as_slice(), row.as_slice());
+            let word = row.first().copied().unwrap_or(0);
+            assert!(rt;
+                seen.iter()
+                    .all(|(other, earlier)| *other != word || earlier < place)
+            );
+            seen.push((word, *place))?;
+        }
+        target.push(vec![in rt.alloc(); 5u64]?)?;
+        assert!(rt; target.len() < 1000);
+        match align(rt.alloc(), &source, &target) {
+            Ok(_) => assert!(rt; false, "a row is missing"),
+            Err(fault) => assert_eq!(rt; fault, AlignFault::NotSameBag),
+        }
+    }
+    Ok(())
+}
