@@ -36,12 +36,15 @@ module _ {X : Type 0} where
       let later = at_places F d xs (a + 1) (λ i. subst (λ n. F n ≡ get_or xs i d) (omega arith) (h (suc i))) in
       λ i. here i ∷ later i
 
+  -- the elements at all places in their order are the list
+  pub map_places : (d : X) (xs : List X) → map (λ i. get_or xs i d) (range_with_len 0 (length xs)) ≡ xs
+  map_places d xs = at_places (λ i. get_or xs i d) d xs 0 (λ i. ap (λ n. get_or xs n d) (zero-add i))
+
   pub SameBag-picked : (eq : X → X → Bool) (xs : List X) (d : X) (places : List ℕ) → IsPermutation (range_with_len 0 (length xs)) places → SameBagBy eq (map (λ i. get_or xs i d) places) xs
   SameBag-picked eq xs d places h =
       let all = range_with_len 0 (length xs) in
       let moved = SameBag-from_permutation eq (map (λ i. get_or xs i d) all) (map (λ i. get_or xs i d) places) (IsPermutation-map (λ i. get_or xs i d) all places h) in
-      let whole : map (λ i. get_or xs i d) all ≡ xs = at_places (λ i. get_or xs i d) d xs 0 (λ i. ap (λ n. get_or xs n d) (zero-add i)) in
-      SameBag-trans (SameBag-sym moved) (SameBag-same whole)
+      SameBag-trans (SameBag-sym moved) (SameBag-same (map_places d xs))
 
 module _ {X : Type 0} {eq : X → X → Bool} (test : IsEqualityTest eq) where
   pub permutation_from-SameBag : (xs ys : List X) → SameBagBy eq xs ys → IsPermutation xs ys

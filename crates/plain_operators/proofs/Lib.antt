@@ -1,0 +1,4 @@
+pub mod Aggregates
+pub mod Distinct
+pub mod Groups
+pub mod Joins
