@@ -1,9 +1,11 @@
--- Distinct rows: each that occurs stands once, so the same bag has the same distinct rows up to the bag.
-use Rattle.std.proofs.Common.{◌≡◌, ℕ, ◌+◌, ◌<◌, min, Bool, true, false, cond, not, List, [], ◌∷◌, ◌++◌, length, refl, sym, ◌∙◌, ap, arith}
+-- Distinct rows: each that occurs stands once, so the same bag has the same distinct rows up to the bag; and distinct
+-- rows of appended, filtered and distinct lists.
+use Rattle.std.proofs.Common.{◌≡◌, ℕ, zero, suc, ◌+◌, ◌<◌, min, Bool, true, false, cond, not, ◌||◌, List, [], ◌∷◌, ◌++◌, length, refl, sym, ◌∙◌, ap, subst, arith, true≢false, zero-add, ltb}
 use Rattle.std.specs.Prelude.{All, ◌≢◌}
-use Rattle.std.specs.List.{filter}
-use Rattle.std.proofs.lemmas.Bool.{false_from_ne_true}
-use Rattle.std.proofs.lemmas.List.Elements.{All-cons, All-head, All-tail, All-filter, filter_passes}
+use Rattle.std.specs.List.{filter, flat_map, list_any}
+use Rattle.std.specs.Cmp.Lexicographic.{nat_list_eq_equiv}
+use Rattle.std.proofs.lemmas.Bool.{false_from_ne_true, lt-ltb}
+use Rattle.std.proofs.lemmas.List.Elements.{All-nil, All-cons, All-head, All-tail, All-filter, All-weaker, filter-append, filter_agree, filter_passes}
 use Rattle.bags.specs.Bag.{SameBag, count_of, row_eq}
 use Rattle.bags.proofs.Bags.{eq_itself, occurrences-filter}
 use Rattle.bags.proofs.Rows.{row_test}
@@ -57,3 +59,123 @@ distinct_front row (x ∷ y ∷ ys) rest alike some =
     let again : filter p left ≡ left = filter_all p left (filter_passes p (distinct_rows rest)) in
     let gone : filter p (row ∷ left) ≡ left = rw (eq_itself row_test row) again in
     ap (λ z. z ∷ filter (λ other. not (row_eq other z)) (distinct_rows ((y ∷ ys) ++ rest))) is ∙ ap (λ l. row ∷ filter p l) shorter ∙ ap (λ l. row ∷ l) gone
+
+-- whether a row is among others
+abbrev pub among : List (List ℕ) → List ℕ → Bool
+among rows row = list_any (row_eq row) rows
+
+de_morgan : (a b : Bool) → cond (not b) (not a) false ≡ not (a || b)
+de_morgan true true = refl
+de_morgan true false = refl
+de_morgan false true = refl
+de_morgan false false = refl
+
+-- one filter after another is one filter
+pub filter_filter : {X : Type 0} (p q r : X → Bool) → ((x : X) → cond (q x) (p x) false ≡ r x) → (xs : List X) → filter p (filter q xs) ≡ filter r xs
+filter_filter p q r each [] = refl
+filter_filter p q r each (x ∷ xs) = subst (λ d. filter p (cond (q x) (x ∷ filter q xs) (filter q xs)) ≡ cond d (x ∷ filter r xs) (filter r xs)) (each x) (by (q x) (p x) refl (filter_filter p q r each xs))
+  where
+    by : (b c : Bool) → p x ≡ c → filter p (filter q xs) ≡ filter r xs → filter p (cond b (x ∷ filter q xs) (filter q xs)) ≡ cond (cond b c false) (x ∷ filter r xs) (filter r xs)
+    by true true f rest = rw f (ap (λ l. x ∷ l) rest)
+    by true false f rest = rw f rest
+    by false c f rest = rest
+
+pub distinct-append : (xs ys : List (List ℕ)) → distinct_rows (xs ++ ys) ≡ distinct_rows xs ++ filter (λ row. not (among xs row)) (distinct_rows ys)
+distinct-append [] ys = sym (filter_all (λ row. true) (distinct_rows ys) (λ k d below. refl))
+distinct-append (x ∷ xs) ys =
+    let p = λ (row : List ℕ). not (row_eq row x) in
+    let rest = ap (filter p) (distinct-append xs ys) ∙ filter-append p (distinct_rows xs) (filter (λ row. not (among xs row)) (distinct_rows ys)) in
+    let both = filter_filter p (λ row. not (among xs row)) (λ row. not (row_eq row x || among xs row)) (λ row. de_morgan (row_eq row x) (among xs row)) (distinct_rows ys) in
+    ap (λ l. x ∷ l) (rest ∙ ap (λ l. filter p (distinct_rows xs) ++ l) both)
+
+pub distinct-filter : (p : List ℕ → Bool) (rows : List (List ℕ)) → distinct_rows (filter p rows) ≡ filter p (distinct_rows rows)
+distinct-filter p [] = refl
+distinct-filter p (x ∷ xs) = by (p x) refl (distinct-filter p xs)
+  where
+    other : List ℕ → Bool
+    other row = not (row_eq row x)
+
+    exchanged : (b c : Bool) → cond b c false ≡ cond c b false
+    exchanged true true = refl
+    exchanged true false = refl
+    exchanged false true = refl
+    exchanged false false = refl
+
+    fails : p x ≡ false → (row : List ℕ) → (b : Bool) → row_eq row x ≡ b → cond (not b) (p row) false ≡ p row
+    fails e row true f = sym (ap p (same_row row x f) ∙ e)
+    fails e row false f = refl
+
+    by : (b : Bool) → p x ≡ b → distinct_rows (filter p xs) ≡ filter p (distinct_rows xs) → distinct_rows (cond b (x ∷ filter p xs) (filter p xs)) ≡ filter p (x ∷ filter other (distinct_rows xs))
+    by true e rest =
+        let left = filter_filter other p (λ row. cond (p row) (other row) false) (λ row. refl) (distinct_rows xs) in
+        let right = filter_filter p other (λ row. cond (p row) (other row) false) (λ row. exchanged (other row) (p row)) (distinct_rows xs) in
+        rw e (ap (λ l. x ∷ filter other l) rest ∙ ap (λ l. x ∷ l) (left ∙ sym right))
+    by false e rest = rw e (rest ∙ sym (filter_filter p other p (λ row. fails e row (row_eq row x) refl) (distinct_rows xs)))
+
+pub distinct_again : (rows : List (List ℕ)) → distinct_rows (distinct_rows rows) ≡ distinct_rows rows
+distinct_again [] = refl
+distinct_again (x ∷ xs) =
+    let p = λ (row : List ℕ). not (row_eq row x) in
+    let once = distinct-filter p (distinct_rows xs) ∙ ap (filter p) (distinct_again xs) in
+    ap (λ l. x ∷ filter p l) once ∙ ap (λ l. x ∷ l) (filter_filter p p p (λ row. twice (p row)) (distinct_rows xs))
+  where
+    twice : (b : Bool) → cond b b false ≡ b
+    twice true = refl
+    twice false = refl
+
+among_count : (rows : List (List ℕ)) (row : List ℕ) → among rows row ≡ ltb 0 (count_of row rows)
+among_count [] row = refl
+among_count (x ∷ xs) row = by (row_eq row x) (among_count xs row)
+  where
+    by : (b : Bool) → among xs row ≡ ltb 0 (count_of row xs) → (b || among xs row) ≡ ltb 0 (cond b 1 0 + count_of row xs)
+    by true rest = sym (lt-ltb 0 (1 + count_of row xs) (omega arith))
+    by false rest = rest ∙ ap (ltb 0) (sym (zero-add (count_of row xs)))
+
+pub among_distinct : (rows : List (List ℕ)) (row : List ℕ) → among (distinct_rows rows) row ≡ among rows row
+among_distinct rows row = among_count (distinct_rows rows) row ∙ ap (ltb 0) (count_of-distinct_rows row rows) ∙ at (count_of row rows) ∙ sym (among_count rows row)
+  where
+    at : (n : ℕ) → ltb 0 (min 1 n) ≡ ltb 0 n
+    at zero = refl
+    at (suc n) = lt-ltb 0 (min 1 (suc n)) (omega arith) ∙ sym (lt-ltb 0 (suc n) (omega arith))
+
+distinct_front_again : (xs ys : List (List ℕ)) → distinct_rows (distinct_rows xs ++ ys) ≡ distinct_rows (xs ++ ys)
+distinct_front_again xs ys =
+    let same = filter_agree (λ row. not (among (distinct_rows xs) row)) (λ row. not (among xs row)) (λ row. ap not (among_distinct xs row)) (distinct_rows ys) in
+    distinct-append (distinct_rows xs) ys ∙ (λ i. distinct_again xs i ++ same i) ∙ sym (distinct-append xs ys)
+
+pub distinct_pieces : {X : Type 0} (f : X → List (List ℕ)) (xs : List X) → distinct_rows (flat_map (λ x. distinct_rows (f x)) xs) ≡ distinct_rows (flat_map f xs)
+distinct_pieces f [] = refl
+distinct_pieces f (x ∷ xs) =
+    let rest = distinct_pieces f xs in
+    let later = flat_map (λ z. distinct_rows (f z)) xs in
+    distinct_front_again (f x) later ∙ distinct-append (f x) later ∙ ap (λ l. distinct_rows (f x) ++ filter (λ row. not (among (f x) row)) l) rest ∙ sym (distinct-append (f x) (flat_map f xs))
+
+-- the one occurrence of a row among distinct rows
+pub distinct_single : (key : List ℕ) (rows : List (List ℕ)) → filter (λ row. row_eq row key) (distinct_rows rows) ≡ cond (among rows key) (key ∷ []) []
+distinct_single key [] = refl
+distinct_single key (x ∷ xs) = by (row_eq x key) refl (distinct_single key xs)
+  where
+    is_key : List ℕ → Bool
+    is_key row = row_eq row key
+
+    other : List ℕ → Bool
+    other row = not (row_eq row x)
+
+    never : x ≡ key → (row : List ℕ) → (b : Bool) → row_eq row x ≡ b → cond (not b) (is_key row) false ≡ false
+    never e row true f = refl
+    never e row false f = subst (λ z. row_eq row z ≡ false) e f
+
+    still : row_eq x key ≡ false → (row : List ℕ) → (b : Bool) → row_eq row x ≡ b → cond (not b) (is_key row) false ≡ is_key row
+    still e row true f = sym (ap is_key (same_row row x f) ∙ e)
+    still e row false f = refl
+
+    by : (b : Bool) → row_eq x key ≡ b → filter is_key (distinct_rows xs) ≡ cond (among xs key) (key ∷ []) []
+        → filter is_key (x ∷ filter other (distinct_rows xs)) ≡ cond (row_eq key x || among xs key) (key ∷ []) []
+    by true e rest =
+        let is : x ≡ key = same_row x key e in
+        let none = filter_filter is_key other (λ row. false) (λ row. never is row (row_eq row x) refl) (distinct_rows xs) in
+        let gone : filter (λ (row : List ℕ). false) (distinct_rows xs) ≡ [] = filter_none (λ row. false) (distinct_rows xs) (λ k d below. refl) in
+        rw (e, nat_list_eq_equiv.symm key x, e) (λ i. is i ∷ (none ∙ gone) i)
+    by false e rest =
+        let kept = filter_filter is_key other is_key (λ row. still e row (row_eq row x) refl) (distinct_rows xs) in
+        rw (e, nat_list_eq_equiv.symm key x, e) (kept ∙ rest)

@@ -1,3 +1,5 @@
 pub mod Columns
 pub mod Operators
 pub mod Laws
+pub mod Regroup
+pub mod Sizes

@@ -1,5 +1,7 @@
 //! Laws of the operators. Each function does nothing, and its contract is the law.
 ghost use Rattle.plain_operators.specs.Laws.{OperatorsKeepBags, OperatorsOfAppend, GroupOfBlocks, WholeTableIsGroup, DistinctIsGroup};
+ghost use Rattle.plain_operators.specs.Regroup.{AggregatesOfAppend, RegroupOfParts};
+ghost use Rattle.plain_operators.specs.Sizes.{OperatorCounts, OperatorsKeepWidths, OperatorsKeepWords};
 
 /// Each operator gives the same bag for the same bags.
 pub fn operators_keep_bags()
@@ -24,4 +26,29 @@ pub fn whole_table_is_group()
 /// Distinct rows are the group by all columns without aggregates.
 pub fn distinct_is_group()
     ensures { DistinctIsGroup }
+{}
+
+/// The rows of each operator are as wide as its columns.
+pub fn operators_keep_widths()
+    ensures { OperatorsKeepWidths }
+{}
+
+/// Each operator gives words below 2^64 for such words.
+pub fn operators_keep_words()
+    ensures { OperatorsKeepWords }
+{}
+
+/// How many rows each operator gives at most.
+pub fn operator_counts()
+    ensures { OperatorCounts }
+{}
+
+/// An aggregate of appended rows is combined from those of the parts.
+pub fn aggregates_of_append()
+    ensures { AggregatesOfAppend }
+{}
+
+/// Grouping the groups of parts again is grouping the rows of all parts.
+pub fn regroup_of_parts()
+    ensures { RegroupOfParts }
 {}
