@@ -1,17 +1,17 @@
 -- Aggregates give the same for the same bag, and of appended rows they are combined.
 use Rattle.std.proofs.Common.{◌≡◌, ℕ, ◌+◌, ◌-◌, ◌%◌, ◌^◌, ◌≤◌, min, max, List, [], ◌∷◌, ◌++◌, map, refl, ap, ◌∙◌, sym, arith}
-use Rattle.std.specs.List.{filter, fold, sum}
+use Rattle.std.specs.List.{fold, sum}
 use Rattle.std.proofs.Math.Nat.{add-mod-mod, add_assoc, add_comm, max_comm, min_comm, mod-add-mod}
 use Rattle.std.proofs.lemmas.List.{length-append, map-append}
 use Rattle.std.proofs.lemmas.List.Sums.{fold-append, sum_by-append}
-use Rattle.bags.specs.Bag.{SameBag, SameBagBy, row_eq}
+use Rattle.bags.specs.Bag.{SameBag, row_eq}
 use Rattle.bags.proofs.Bags.{SameBag-filter, SameBag-map}
 use Rattle.bags.proofs.Folds.{fold_op_bag}
 use Rattle.bags.proofs.Permutations.{length-SameBag}
 use Rattle.bags.proofs.Rows.{row_test, word_test}
 use Rattle.plain_operators.specs.Columns.{cut, word_at}
-use Rattle.plain_operators.specs.Operators.{Aggregate, Sum, Count, Least, Greatest, aggregated, aggregates_of, grouped_row, rows_with}
-use Rattle.plain_operators.specs.Regroup.{AggregatesOfAppend, combined}
+use Rattle.plain_operators.specs.Operators.{Aggregate, Sum, Count, Least, Greatest, aggregated, aggregates_of, grouped_row}
+use Rattle.plain_operators.specs.Regroup.{AggregatesOfAppend}
 
 min_assoc : (x y z : ℕ) → min (min x y) z ≡ min x (min y z)
 min_assoc x y z = omega arith

@@ -1,15 +1,16 @@
 -- Distinct rows: each that occurs stands once, so the same bag has the same distinct rows up to the bag; and distinct
 -- rows of appended, filtered and distinct lists.
-use Rattle.std.proofs.Common.{◌≡◌, ℕ, zero, suc, ◌+◌, ◌<◌, min, Bool, true, false, cond, not, ◌||◌, List, [], ◌∷◌, ◌++◌, length, refl, sym, ◌∙◌, ap, subst, arith, true≢false, zero-add, ltb}
+use Rattle.std.proofs.Common.{◌≡◌, ℕ, zero, suc, ◌+◌, ◌<◌, min, Bool, true, false, cond, not, ◌||◌, List, [], ◌∷◌, ◌++◌, length, refl, sym, ◌∙◌, ap, subst, arith, zero-add, ltb}
 use Rattle.std.specs.Prelude.{All, ◌≢◌}
 use Rattle.std.specs.List.{filter, flat_map, list_any}
 use Rattle.std.specs.Cmp.Lexicographic.{nat_list_eq_equiv}
 use Rattle.std.proofs.lemmas.Bool.{false_from_ne_true, lt-ltb}
-use Rattle.std.proofs.lemmas.List.Elements.{All-nil, All-cons, All-head, All-tail, All-filter, All-weaker, filter-append, filter_agree, filter_passes}
+use Rattle.std.proofs.lemmas.List.Elements.{All-cons, All-head, All-tail, All-filter, filter-append, filter_agree, filter_passes}
 use Rattle.bags.specs.Bag.{SameBag, count_of, row_eq}
 use Rattle.bags.proofs.Bags.{eq_itself, occurrences-filter}
 use Rattle.bags.proofs.Rows.{row_test}
 use Rattle.plain_operators.specs.Operators.{distinct_rows}
+use Rattle.plain_operators.proofs.Lists.{filter_all, filter_none, filter_filter}
 
 pub same_row : (x y : List ℕ) → row_eq x y ≡ true → x ≡ y
 same_row x y = (row_test.decides x y).0
@@ -30,15 +31,6 @@ count_of-distinct_rows row (x ∷ xs) =
 
 pub SameBag-distinct_rows : {xs ys : List (List ℕ)} → SameBag xs ys → SameBag (distinct_rows xs) (distinct_rows ys)
 SameBag-distinct_rows {xs} {ys} h = record { counts = λ row. count_of-distinct_rows row xs ∙ ap (min 1) (h.counts row) ∙ sym (count_of-distinct_rows row ys) }
-
--- filters that keep all and that keep none
-pub filter_all : {X : Type 0} (p : X → Bool) (xs : List X) → All (λ x. p x ≡ true) xs → filter p xs ≡ xs
-filter_all p [] all = refl
-filter_all p (x ∷ xs) all = rw (All-head (λ z. p z ≡ true) x xs all) (ap (λ l. x ∷ l) (filter_all p xs (All-tail (λ z. p z ≡ true) x xs all)))
-
-pub filter_none : {X : Type 0} (p : X → Bool) (xs : List X) → All (λ x. p x ≡ false) xs → filter p xs ≡ []
-filter_none p [] all = refl
-filter_none p (x ∷ xs) all = rw (All-head (λ z. p z ≡ false) x xs all) (filter_none p xs (All-tail (λ z. p z ≡ false) x xs all))
 
 pub All-distinct_rows : (P : List ℕ → Type 0) (rows : List (List ℕ)) → All P rows → All P (distinct_rows rows)
 All-distinct_rows P [] all = all
@@ -69,16 +61,6 @@ de_morgan true true = refl
 de_morgan true false = refl
 de_morgan false true = refl
 de_morgan false false = refl
-
--- one filter after another is one filter
-pub filter_filter : {X : Type 0} (p q r : X → Bool) → ((x : X) → cond (q x) (p x) false ≡ r x) → (xs : List X) → filter p (filter q xs) ≡ filter r xs
-filter_filter p q r each [] = refl
-filter_filter p q r each (x ∷ xs) = subst (λ d. filter p (cond (q x) (x ∷ filter q xs) (filter q xs)) ≡ cond d (x ∷ filter r xs) (filter r xs)) (each x) (by (q x) (p x) refl (filter_filter p q r each xs))
-  where
-    by : (b c : Bool) → p x ≡ c → filter p (filter q xs) ≡ filter r xs → filter p (cond b (x ∷ filter q xs) (filter q xs)) ≡ cond (cond b c false) (x ∷ filter r xs) (filter r xs)
-    by true true f rest = rw f (ap (λ l. x ∷ l) rest)
-    by true false f rest = rw f rest
-    by false c f rest = rest
 
 pub distinct-append : (xs ys : List (List ℕ)) → distinct_rows (xs ++ ys) ≡ distinct_rows xs ++ filter (λ row. not (among xs row)) (distinct_rows ys)
 distinct-append [] ys = sym (filter_all (λ row. true) (distinct_rows ys) (λ k d below. refl))

@@ -12,16 +12,8 @@ use Rattle.plain_operators.specs.Columns.{cut}
 use Rattle.plain_operators.specs.Operators.{Aggregate, aggregates_of, distinct_rows, grouped_row, grouped_rows, key_lists, rows_with, whole_table_rows}
 use Rattle.plain_operators.specs.Laws.{AreBlocks, GroupOfBlocks, WholeTableIsGroup, DistinctIsGroup, block_key, block_row}
 use Rattle.plain_operators.proofs.Aggregates.{grouped_row-SameBag, aggregates_of-SameBag}
-use Rattle.plain_operators.proofs.Distinct.{All-distinct_rows, SameBag-distinct_rows, distinct_front, filter_all, filter_none, other_row}
-
--- functions that agree on each element of a list
-pub map_agree : {X Y : Type 0} (f g : X → Y) (xs : List X) → All (λ x. f x ≡ g x) xs → map f xs ≡ map g xs
-map_agree f g [] all = refl
-map_agree f g (x ∷ xs) all = λ i. All-head (λ z. f z ≡ g z) x xs all i ∷ map_agree f g xs (All-tail (λ z. f z ≡ g z) x xs all) i
-
-map_same : {X Y : Type 0} (f g : X → Y) → ((x : X) → f x ≡ g x) → (xs : List X) → map f xs ≡ map g xs
-map_same f g each [] = refl
-map_same f g each (x ∷ xs) = λ i. each x i ∷ map_same f g each xs i
+use Rattle.plain_operators.proofs.Distinct.{All-distinct_rows, SameBag-distinct_rows, distinct_front, other_row}
+use Rattle.plain_operators.proofs.Lists.{map_same, map_agree, filter_all, filter_none}
 
 pub grouped_rows-SameBag : (keys : List ℕ) (aggregates : List Aggregate) {xs ys : List (List ℕ)} → SameBag xs ys → SameBag (grouped_rows keys aggregates xs) (grouped_rows keys aggregates ys)
 grouped_rows-SameBag keys aggregates {xs} {ys} h =

@@ -1,25 +1,19 @@
 -- A group in two steps is the group at once.
-use Rattle.std.proofs.Common.{◌≡◌, ℕ, zero, suc, ◌+◌, ◌-◌, ◌%◌, ◌^◌, ◌<◌, ◌≤◌, min, max, Bool, true, false, cond, not, ◌||◌, List, [], ◌∷◌, ◌++◌, map, drop, length, get_or, refl, sym, ◌∙◌, ap, subst, arith, true≢false, add-zero}
-use Rattle.std.specs.List.{All, filter, flat_map, fold, range_with_len, sum}
+use Rattle.std.proofs.Common.{◌≡◌, ℕ, ◌+◌, ◌-◌, ◌^◌, ◌<◌, Bool, true, false, cond, List, [], ◌∷◌, ◌++◌, map, drop, length, get_or, refl, sym, ◌∙◌, ap, subst, arith, add-zero}
+use Rattle.std.specs.List.{All, flat_map, range_with_len}
 use Rattle.std.specs.Cmp.Lexicographic.{nat_list_eq_equiv}
 use Rattle.std.proofs.lemmas.Bool.{or_parts}
-use Rattle.std.proofs.lemmas.List.{append-nil, drop-drop, drop_at, get_or-drop, get_or_append_left, length-append, length-map, map-append, map-id}
-use Rattle.std.proofs.lemmas.List.Elements.{All-nil, All-cons, All-head, All-map, All-tail, All-weaker, filter-append}
+use Rattle.std.proofs.lemmas.List.{drop-drop, drop_at, get_or-drop, get_or_append_left, length-append, map-id}
+use Rattle.std.proofs.lemmas.List.Elements.{All-map, All-weaker, filter-append}
 use Rattle.bags.specs.Bag.{row_eq}
 use Rattle.bags.proofs.Permutations.{map_places}
 use Rattle.plain_operators.specs.Columns.{cut, word_at}
 use Rattle.plain_operators.specs.Operators.{Aggregate, Sum, Count, Least, Greatest, aggregated, aggregates_of, distinct_rows, grouped_row, grouped_rows, key_lists, rows_with}
 use Rattle.plain_operators.specs.Regroup.{RegroupOfParts, again, again_from, combined, partial_groups}
 use Rattle.plain_operators.proofs.Aggregates.{aggregates_of_append, fold_min_below}
-use Rattle.plain_operators.proofs.Distinct.{All-distinct_rows, among, distinct_pieces, distinct_single, filter_none}
-use Rattle.plain_operators.proofs.Groups.{map_agree}
-use Rattle.plain_operators.proofs.Sizes.{All-each, length-cut, length-filter-le}
-
-range_below : (a n : ℕ) → All (λ i. i < a + n) (range_with_len a n)
-range_below a zero = All-nil (λ i. i < a + zero)
-range_below a (suc n) =
-    let rest = range_below (a + 1) n in
-    All-cons (λ i. i < a + suc n) a (range_with_len (a + 1) n) (omega arith) (All-weaker (λ i. i < a + 1 + n) (λ i. i < a + suc n) (λ i h. omega arith) (range_with_len (a + 1) n) rest)
+use Rattle.plain_operators.proofs.Distinct.{All-distinct_rows, among, distinct_pieces, distinct_single}
+use Rattle.plain_operators.proofs.Sizes.{length-cut}
+use Rattle.plain_operators.proofs.Lists.{map_agree, map_map, flat_map_same, map-flat_map, All-each, filter_agree_on, filter-map, length-filter-le, range_below}
 
 -- the front of a row, by its length
 cut_front : (key words : List ℕ) → cut (range_with_len 0 (length key)) (key ++ words) ≡ key
@@ -27,31 +21,6 @@ cut_front key words =
     let places = range_with_len 0 (length key) in
     let agree : All (λ i. word_at i (key ++ words) ≡ word_at i key) places = All-weaker (λ i. i < 0 + length key) (λ i. word_at i (key ++ words) ≡ word_at i key) (λ i below. get_or_append_left key words 0 i (omega arith)) places (range_below 0 (length key)) in
     map_agree (λ i. word_at i (key ++ words)) (λ i. word_at i key) places agree ∙ map_places 0 key
-
-filter-map : {X Y : Type 0} (p : Y → Bool) (f : X → Y) (xs : List X) → filter p (map f xs) ≡ map f (filter (λ x. p (f x)) xs)
-filter-map p f [] = refl
-filter-map p f (x ∷ xs) = by (p (f x)) (filter-map p f xs)
-  where
-    by : (b : Bool) → filter p (map f xs) ≡ map f (filter (λ z. p (f z)) xs) → cond b (f x ∷ filter p (map f xs)) (filter p (map f xs)) ≡ map f (cond b (x ∷ filter (λ z. p (f z)) xs) (filter (λ z. p (f z)) xs))
-    by true rest = ap (λ l. f x ∷ l) rest
-    by false rest = rest
-
--- tests that agree on each element of a list
-filter_agree_on : {X : Type 0} (p q : X → Bool) (xs : List X) → All (λ x. p x ≡ q x) xs → filter p xs ≡ filter q xs
-filter_agree_on p q [] all = refl
-filter_agree_on p q (x ∷ xs) all = λ i. cond (All-head (λ z. p z ≡ q z) x xs all i) (x ∷ filter_agree_on p q xs (All-tail (λ z. p z ≡ q z) x xs all) i) (filter_agree_on p q xs (All-tail (λ z. p z ≡ q z) x xs all) i)
-
-map_map : {X Y Z : Type 0} (g : Y → Z) (f : X → Y) (xs : List X) → map g (map f xs) ≡ map (λ x. g (f x)) xs
-map_map g f [] = refl
-map_map g f (x ∷ xs) = ap (λ l. g (f x) ∷ l) (map_map g f xs)
-
-map-flat_map : {X Y Z : Type 0} (g : Y → Z) (f : X → List Y) (xs : List X) → map g (flat_map f xs) ≡ flat_map (λ x. map g (f x)) xs
-map-flat_map g f [] = refl
-map-flat_map g f (x ∷ xs) = map-append g (f x) (flat_map f xs) ∙ ap (λ l. map g (f x) ++ l) (map-flat_map g f xs)
-
-flat_map_same : {X Y : Type 0} (f g : X → List Y) → ((x : X) → f x ≡ g x) → (xs : List X) → flat_map f xs ≡ flat_map g xs
-flat_map_same f g each [] = refl
-flat_map_same f g each (x ∷ xs) = λ i. each x i ++ flat_map_same f g each xs i
 
 module _ (keys : List ℕ) (aggregates : List Aggregate) where
   -- the keys of a group's row are its front

@@ -1,6 +1,6 @@
 -- How wide, how many and how large the rows of an operator are.
-use Rattle.std.proofs.Common.{◌≡◌, ℕ, ◌+◌, ◌-◌, ◌*◌, ◌%◌, ◌^◌, ◌<◌, ◌≤◌, min, max, Bool, true, false, cond, not, List, [], ◌∷◌, ◌++◌, map, length, get_or, zero, suc, refl, sym, ◌∙◌, ap, subst, arith, rules, inl, inr}
-use Rattle.std.specs.List.{All, filter, flat_map, fold, range_with_len}
+use Rattle.std.proofs.Common.{◌≡◌, ℕ, ◌+◌, ◌-◌, ◌*◌, ◌^◌, ◌<◌, ◌≤◌, min, max, not, List, [], ◌∷◌, ◌++◌, map, length, ◌∙◌, arith, inl, inr}
+use Rattle.std.specs.List.{All, filter, fold}
 use Rattle.std.proofs.lemmas.List.{length-append, length-map}
 use Rattle.std.proofs.lemmas.List.Elements.{All-nil, All-append, All-cons, All-filter, All-get_or, All-head, All-map, All-tail, All-weaker}
 use Rattle.std.proofs.lemmas.List.{get_or_past}
@@ -10,22 +10,7 @@ use Rattle.plain_operators.specs.Columns.{cut, others, other_columns, word_at}
 use Rattle.plain_operators.specs.Operators.{Aggregate, Sum, Count, Least, Greatest, aggregated, aggregates_of, distinct_rows, grouped_row, grouped_rows, have_equal_keys, joined_row, joined_rows, joined_rows_of, key_lists, left_keys, right_keys, rows_with, whole_table_rows}
 use Rattle.plain_operators.specs.Sizes.{AllWide, IsOfWords, joined_width}
 use Rattle.plain_operators.proofs.Distinct.{All-distinct_rows}
-
--- what holds of each piece holds of the pieces appended
-pub All-flat_map : {X Y : Type 0} (P : Y → Type 0) (f : X → List Y) (xs : List X) → All (λ x. All P (f x)) xs → All P (flat_map f xs)
-All-flat_map P f [] all = All-nil P
-All-flat_map P f (x ∷ xs) all = All-append P (f x) (flat_map f xs) (All-head (λ z. All P (f z)) x xs all) (All-flat_map P f xs (All-tail (λ z. All P (f z)) x xs all))
-
-pub All-each : {X : Type 0} (P : X → Type 0) → ((x : X) → P x) → (xs : List X) → All P xs
-All-each P each xs k d below = each (get_or xs k d)
-
-pub length-filter-le : {X : Type 0} (p : X → Bool) (xs : List X) → length (filter p xs) ≤ length xs
-length-filter-le p [] = omega arith
-length-filter-le p (x ∷ xs) = by (p x) (length-filter-le p xs)
-  where
-    by : (b : Bool) → length (filter p xs) ≤ length xs → length (cond b (x ∷ filter p xs) (filter p xs)) ≤ length (x ∷ xs)
-    by true rest = omega arith
-    by false rest = omega arith
+use Rattle.plain_operators.proofs.Lists.{All-each, All-flat_map, length-filter-le}
 
 -- widths
 

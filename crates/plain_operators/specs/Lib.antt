@@ -1,5 +1,6 @@
 pub mod Columns
 pub mod Operators
 pub mod Laws
+pub mod Places
 pub mod Regroup
 pub mod Sizes

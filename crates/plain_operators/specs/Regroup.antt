@@ -1,5 +1,5 @@
 -- A group in two steps: each part of the rows by itself, and then the partial groups together.
-use Rattle.std.specs.Prelude.{◌≡◌, ℕ, suc, ◌+◌, ◌%◌, ◌^◌, ◌<◌, min, max, List, [], ◌∷◌, ◌++◌, length}
+use Rattle.std.specs.Prelude.{◌≡◌, ℕ, ◌+◌, ◌%◌, ◌^◌, ◌<◌, min, max, List, [], ◌∷◌, ◌++◌, length}
 use Rattle.std.specs.List.{flat_map, range_with_len}
 use Rattle.plain_operators.specs.Operators.{Aggregate, Sum, Count, Least, Greatest, aggregated, grouped_rows}
 

@@ -1,5 +1,6 @@
 //! Laws of the operators. Each function does nothing, and its contract is the law.
 ghost use Rattle.plain_operators.specs.Laws.{OperatorsKeepBags, OperatorsOfAppend, GroupOfBlocks, WholeTableIsGroup, DistinctIsGroup};
+ghost use Rattle.plain_operators.specs.Places.{AggregatesAreFolds, FilterOfPlaces, JoinOfPlaces};
 ghost use Rattle.plain_operators.specs.Regroup.{AggregatesOfAppend, RegroupOfParts};
 ghost use Rattle.plain_operators.specs.Sizes.{OperatorCounts, OperatorsKeepWidths, OperatorsKeepWords};
 
@@ -51,4 +52,19 @@ pub fn aggregates_of_append()
 /// Grouping the groups of parts again is grouping the rows of all parts.
 pub fn regroup_of_parts()
     ensures { RegroupOfParts }
+{}
+
+/// A filter is the rows at the places that pass.
+pub fn filter_of_places()
+    ensures { FilterOfPlaces }
+{}
+
+/// A join is the joined rows of the matching pairs of places, in nested order.
+pub fn join_of_places()
+    ensures { JoinOfPlaces }
+{}
+
+/// Sums and counts are folds of the addition of words.
+pub fn aggregates_are_folds()
+    ensures { AggregatesAreFolds }
 {}
