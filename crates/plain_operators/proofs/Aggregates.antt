@@ -13,10 +13,10 @@ use Rattle.plain_operators.specs.Columns.{cut, word_at}
 use Rattle.plain_operators.specs.Operators.{Aggregate, Sum, Count, Least, Greatest, aggregated, aggregates_of, grouped_row}
 use Rattle.plain_operators.specs.Regroup.{AggregatesOfAppend}
 
-min_assoc : (x y z : ℕ) → min (min x y) z ≡ min x (min y z)
+pub min_assoc : (x y z : ℕ) → min (min x y) z ≡ min x (min y z)
 min_assoc x y z = omega arith
 
-max_assoc : (x y z : ℕ) → max (max x y) z ≡ max x (max y z)
+pub max_assoc : (x y z : ℕ) → max (max x y) z ≡ max x (max y z)
 max_assoc x y z = omega arith
 
 -- a fold over a column by an operation whose operands may be regrouped and exchanged

@@ -1,4 +1,5 @@
 pub mod Aggregates
+pub mod Cuts
 pub mod Distinct
 pub mod Groups
 pub mod Joins

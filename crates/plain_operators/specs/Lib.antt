@@ -1,4 +1,5 @@
 pub mod Columns
+pub mod Cuts
 pub mod Operators
 pub mod Laws
 pub mod Places

@@ -1,4 +1,5 @@
 //! Laws of the operators. Each function does nothing, and its contract is the law.
+ghost use Rattle.plain_operators.specs.Cuts.{AggregatesOfCuts, OperatorsOfCuts};
 ghost use Rattle.plain_operators.specs.Laws.{OperatorsKeepBags, OperatorsOfAppend, GroupOfBlocks, WholeTableIsGroup, DistinctIsGroup};
 ghost use Rattle.plain_operators.specs.Places.{AggregatesAreFolds, FilterOfPlaces, JoinOfPlaces};
 ghost use Rattle.plain_operators.specs.Regroup.{AggregatesOfAppend, RegroupOfParts};
@@ -67,4 +68,14 @@ pub fn join_of_places()
 /// Sums and counts are folds of the addition of words.
 pub fn aggregates_are_folds()
     ensures { AggregatesAreFolds }
+{}
+
+/// What is wanted of each operator's rows has the same bag where the columns that it depends on have.
+pub fn operators_of_cuts()
+    ensures { OperatorsOfCuts }
+{}
+
+/// Aggregates of columns that depend on some columns are the same where the bags of these are.
+pub fn aggregates_of_cuts()
+    ensures { AggregatesOfCuts }
 {}
