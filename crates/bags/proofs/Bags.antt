@@ -1,10 +1,15 @@
 -- Lists that are the same bag: the equivalence, appending, induction, and the functions that keep it.
 use Rattle.std.proofs.Common.{◌≡◌, ◌+◌, ◌<◌, Bool, true, false, cond, List, [], ◌∷◌, ◌++◌, map, refl, sym, ◌∙◌, ap, subst, arith, true≢false, zero, zero-add}
+use Rattle.std.specs.Bool.{Decides}
 use Rattle.std.specs.List.{flat_map, filter}
 use Rattle.std.proofs.lemmas.List.{append_assoc, map-append}
 use Rattle.std.proofs.lemmas.List.Concat.{flat_map-append}
 use Rattle.std.proofs.lemmas.List.Elements.{filter-append}
-use Rattle.bags.specs.Bag.{IsEqualityTest, occurrences, SameBagBy}
+use Rattle.bags.specs.Bag.{occurrences, SameBagBy}
+
+-- the test answers true exactly where the two are equal
+pub record IsEqualityTest {X : Type 0} (eq : X → X → Bool) : Type 0 where
+  pub decides : (x y : X) → Decides (eq x y) (x ≡ y)
 
 pub occurrences-append : {X : Type 0} (eq : X → X → Bool) (x : X) (xs ys : List X) → occurrences eq x (xs ++ ys) ≡ occurrences eq x xs + occurrences eq x ys
 occurrences-append eq x [] ys = omega arith

@@ -3,8 +3,8 @@ use Rattle.std.proofs.Common.{◌≡◌, ◌<◌, Bool, true, false, List, [], �
 use Rattle.std.specs.List.{All}
 use Rattle.std.proofs.lemmas.List.{map-append}
 use Rattle.std.proofs.lemmas.List.Elements.{All-cons, All-head, All-tail}
-use Rattle.bags.specs.Bag.{IsEqualityTest, occurrences, SameBagBy}
-use Rattle.bags.proofs.Bags.{SameBag-append, SameBag-cons_cancel, SameBag-middle, SameBag-middle_part, SameBag-refl, SameBag-same, SameBag-trans, occurrences_here}
+use Rattle.bags.specs.Bag.{occurrences, SameBagBy}
+use Rattle.bags.proofs.Bags.{IsEqualityTest, SameBag-append, SameBag-cons_cancel, SameBag-middle, SameBag-middle_part, SameBag-refl, SameBag-same, SameBag-trans, occurrences_here}
 
 -- a list with an element in it whose image is k, cut before and after that element
 pub record IsSplitAt {X K : Type 0} (h : X → K) (k : K) (xs : List X) : Type 0 where

@@ -4,8 +4,8 @@ use Rattle.std.specs.List.{All, AllZip, flat_map, range_with_len, sum_by}
 use Rattle.std.specs.List.Sorted.{IsPermutation}
 use Rattle.std.proofs.lemmas.List.Recursion.{is_sum_by}
 use Rattle.std.proofs.lemmas.List.Sorted.{IsPermutation-refl, IsPermutation-sym, IsPermutation-trans, IsPermutation-cons, IsPermutation-middle, IsPermutation-map, sum_by-IsPermutation, length_permutation, All-permutation}
-use Rattle.bags.specs.Bag.{IsEqualityTest, occurrences, SameBagBy}
-use Rattle.bags.proofs.Bags.{occurrences-append, SameBag-refl, SameBag-sym, SameBag-trans, SameBag-same, SameBag-append, by_bag}
+use Rattle.bags.specs.Bag.{occurrences, SameBagBy}
+use Rattle.bags.proofs.Bags.{IsEqualityTest, occurrences-append, SameBag-refl, SameBag-sym, SameBag-trans, SameBag-same, SameBag-append, by_bag}
 
 pub SameBag-from_permutation : {X : Type 0} (eq : X → X → Bool) (xs ys : List X) → IsPermutation xs ys → SameBagBy eq xs ys
 SameBag-from_permutation {X} eq xs ys h = record { counts = λ x. counted x xs ∙ sym (sum_by-IsPermutation (λ y. cond (eq x y) 1 0) xs ys h) ∙ sym (counted x ys) }

@@ -6,10 +6,11 @@ use Rattle.std.specs.Cmp.Lexicographic.{bytes_decides, nat_list_cmp_total, texts
 use Rattle.std.specs.List.Sorted.{IsPermutation, IsSorted, IsSortedByKey}
 use Rattle.std.proofs.lemmas.List.{map-id}
 use Rattle.std.proofs.lemmas.List.Sorted.{IsPermutation-map}
-use Rattle.bags.specs.Bag.{IsEqualityTest, row_eq}
-use Rattle.bags.specs.Sorted.{IsLinearOrder, row_cmp, sorted}
+use Rattle.bags.specs.Bag.{row_eq}
+use Rattle.bags.specs.Sorted.{row_cmp, sorted}
+use Rattle.bags.proofs.Bags.{IsEqualityTest}
 use Rattle.bags.proofs.Permutations.{SameBag-from_permutation}
-use Rattle.bags.proofs.Sorting.{Ascends-from_sorted, sorted_by_unique}
+use Rattle.bags.proofs.Sorting.{IsLinearOrder, Ascends-from_sorted, sorted_by_unique}
 
 pub word_test : IsEqualityTest nat_eq
 word_test = record { decides = λ x y. (eqb-true x y, eq-eqb x y) }

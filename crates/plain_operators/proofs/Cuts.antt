@@ -15,7 +15,7 @@ use Rattle.plain_operators.specs.Columns.{cut, word_at}
 use Rattle.plain_operators.specs.Operators.{Aggregate, distinct_rows, grouped_row, grouped_rows, have_equal_keys, joined_row, joined_rows, joined_rows_of, key_lists, left_keys, right_keys, rows_of_items, rows_with}
 use Rattle.plain_operators.specs.Cuts.{AggregatesOfCuts, CutsAgree, DependsOn, GroupDependsOn, JoinDependsOn, OperatorsOfCuts, SameCut}
 use Rattle.plain_operators.proofs.Aggregates.{max_assoc, min_assoc}
-use Rattle.plain_operators.proofs.Distinct.{SameBag-distinct_rows}
+use Rattle.plain_operators.proofs.DistinctRows.{SameBag-distinct_rows}
 use Rattle.plain_operators.proofs.Lists.{flat_map_same, map_agree, map-flat_map, map_map, map_same}
 
 -- a test that depends on the columns keeps rows with the same bag of cuts

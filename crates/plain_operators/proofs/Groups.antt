@@ -12,7 +12,7 @@ use Rattle.plain_operators.specs.Columns.{cut}
 use Rattle.plain_operators.specs.Operators.{Aggregate, aggregates_of, distinct_rows, grouped_row, grouped_rows, key_lists, rows_with, whole_table_rows}
 use Rattle.plain_operators.specs.Laws.{AreBlocks, GroupOfBlocks, WholeTableIsGroup, DistinctIsGroup, block_key, block_row}
 use Rattle.plain_operators.proofs.Aggregates.{grouped_row-SameBag, aggregates_of-SameBag}
-use Rattle.plain_operators.proofs.Distinct.{All-distinct_rows, SameBag-distinct_rows, distinct_front, other_row}
+use Rattle.plain_operators.proofs.DistinctRows.{All-distinct_rows, SameBag-distinct_rows, distinct_front, other_row}
 use Rattle.plain_operators.proofs.Lists.{map_same, map_agree, filter_all, filter_none}
 
 pub grouped_rows-SameBag : (keys : List ℕ) (aggregates : List Aggregate) {xs ys : List (List ℕ)} → SameBag xs ys → SameBag (grouped_rows keys aggregates xs) (grouped_rows keys aggregates ys)

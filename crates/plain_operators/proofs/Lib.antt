@@ -1,6 +1,6 @@
 pub mod Aggregates
 pub mod Cuts
-pub mod Distinct
+pub mod DistinctRows
 pub mod Groups
 pub mod Joins
 pub mod Lists

@@ -11,7 +11,7 @@ use Rattle.plain_operators.specs.Columns.{cut, word_at}
 use Rattle.plain_operators.specs.Operators.{Aggregate, Sum, Count, Least, Greatest, aggregated, aggregates_of, distinct_rows, grouped_row, grouped_rows, key_lists, rows_with}
 use Rattle.plain_operators.specs.Regroup.{RegroupOfParts, again, again_from, combined, partial_groups}
 use Rattle.plain_operators.proofs.Aggregates.{aggregates_of_append, fold_min_below}
-use Rattle.plain_operators.proofs.Distinct.{All-distinct_rows, among, distinct_pieces, distinct_single}
+use Rattle.plain_operators.proofs.DistinctRows.{All-distinct_rows, among, distinct_pieces, distinct_single}
 use Rattle.plain_operators.proofs.Sizes.{length-cut}
 use Rattle.plain_operators.proofs.Lists.{map_agree, map_map, flat_map_same, map-flat_map, All-each, filter_agree_on, filter-map, length-filter-le, range_below}
 

@@ -2,7 +2,7 @@ use Rattle.std.specs.List.{list_all}
 use Rattle.std.proofs.Common.{map}
 use Rattle.bags.proofs.Bags.{SameBag-filter, SameBag-map}
 use Rattle.bags.proofs.Rows.{row_test}
-use Rattle.plain_operators.proofs.Distinct.{SameBag-distinct_rows}
+use Rattle.plain_operators.proofs.DistinctRows.{SameBag-distinct_rows}
 use Rattle.plain_operators.proofs.Groups.{grouped_rows-SameBag, whole_table_rows-SameBag}
 use Rattle.plain_operators.proofs.Joins.{joined_rows-SameBag}
 use Rattle.plain_operators.proofs.laws.operators_keep_bags.Goals as goal

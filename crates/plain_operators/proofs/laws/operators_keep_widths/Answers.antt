@@ -2,7 +2,7 @@ use Rattle.std.proofs.Common.{◌≡◌, length, map}
 use Rattle.std.specs.List.{list_all}
 use Rattle.std.proofs.lemmas.List.{length-map}
 use Rattle.std.proofs.lemmas.List.Elements.{All-filter, All-map}
-use Rattle.plain_operators.proofs.Distinct.{All-distinct_rows}
+use Rattle.plain_operators.proofs.DistinctRows.{All-distinct_rows}
 use Rattle.plain_operators.proofs.Sizes.{grouped_rows-AllWide, joined_rows-AllWide, whole_table_rows-AllWide}
 use Rattle.plain_operators.proofs.Lists.{All-each}
 use Rattle.plain_operators.proofs.laws.operators_keep_widths.Goals as goal

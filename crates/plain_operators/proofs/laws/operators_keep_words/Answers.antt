@@ -2,7 +2,7 @@ use Rattle.std.proofs.Common.{◌<◌, ◌^◌, map}
 use Rattle.std.specs.List.{list_all}
 use Rattle.std.proofs.lemmas.List.Elements.{All-filter, All-map, All-weaker}
 use Rattle.plain_operators.specs.Sizes.{IsOfWords}
-use Rattle.plain_operators.proofs.Distinct.{All-distinct_rows}
+use Rattle.plain_operators.proofs.DistinctRows.{All-distinct_rows}
 use Rattle.plain_operators.proofs.Sizes.{grouped_rows-IsOfWords, joined_rows-IsOfWords, whole_table_rows-IsOfWords}
 use Rattle.plain_operators.proofs.laws.operators_keep_words.Goals as goal
 

@@ -6,6 +6,7 @@ use Rattle.std.specs.List.{filter, flat_map, list_any}
 use Rattle.std.specs.Cmp.Lexicographic.{nat_list_eq_equiv}
 use Rattle.std.proofs.lemmas.Bool.{false_from_ne_true, lt-ltb}
 use Rattle.std.proofs.lemmas.List.Elements.{All-cons, All-head, All-tail, All-filter, filter-append, filter_agree, filter_passes}
+use Rattle.std.proofs.lemmas.List.Folds.{list_any-append}
 use Rattle.bags.specs.Bag.{SameBag, count_of, row_eq}
 use Rattle.bags.proofs.Bags.{eq_itself, occurrences-filter}
 use Rattle.bags.proofs.Rows.{row_test}
@@ -161,3 +162,28 @@ distinct_single key (x ∷ xs) = by (row_eq x key) refl (distinct_single key xs)
     by false e rest =
         let kept = filter_filter is_key other is_key (λ row. still e row (row_eq row x) refl) (distinct_rows xs) in
         rw (e, nat_list_eq_equiv.symm key x, e) (kept ∙ rest)
+
+-- one more row
+distinct_more : (rows : List (List ℕ)) (row : List ℕ) → distinct_rows (rows ++ row ∷ []) ≡ distinct_rows rows ++ cond (not (among rows row)) (row ∷ []) []
+distinct_more rows row = distinct-append rows (row ∷ [])
+
+among_more : (rows : List (List ℕ)) (row other : List ℕ) → among (rows ++ row ∷ []) other ≡ cond (row_eq row other) true (among rows other)
+among_more rows row other = list_any-append (row_eq other) rows (row ∷ []) ∙ (λ i. among rows other || (nat_list_eq_equiv.symm other row i || false)) ∙ by (among rows other) (row_eq row other)
+  where
+    by : (a b : Bool) → (a || (b || false)) ≡ cond b true a
+    by true true = refl
+    by true false = refl
+    by false true = refl
+    by false false = refl
+
+-- a step of a walk over rows that keeps each new one
+pub record WalksDistinct (seen : List ℕ → Bool) (kept : List (List ℕ)) (rows : List (List ℕ)) : Type 0 where
+  pub all : (row : List ℕ) → seen row ≡ among rows row
+  pub once : kept ≡ distinct_rows rows
+
+pub walks_more : (old new : List ℕ → Bool) (kept rows : List (List ℕ)) (row : List ℕ) (added : Bool) → WalksDistinct old kept rows → added ≡ not (old row)
+    → ((other : List ℕ) → new other ≡ cond (row_eq row other) true (old other)) → WalksDistinct new (kept ++ cond added (row ∷ []) []) (rows ++ row ∷ [])
+walks_more old new kept rows row added walked is updated = record {
+  all = λ other. updated other ∙ ap (cond (row_eq row other) true) (walked.all other) ∙ sym (among_more rows row other);
+  once = (λ i. walked.once i ++ cond ((is ∙ ap not (walked.all row)) i) (row ∷ []) []) ∙ sym (distinct_more rows row);
+}
