@@ -1,10 +1,15 @@
 -- Lists that are the same bag: the equivalence, appending, induction, and the functions that keep it.
-use Rattle.std.proofs.Common.{◌≡◌, ◌+◌, ◌<◌, Bool, true, false, cond, List, [], ◌∷◌, ◌++◌, map, refl, sym, ◌∙◌, ap, subst, arith}
+use Rattle.std.proofs.Common.{◌≡◌, ◌+◌, ◌<◌, Bool, true, false, cond, List, [], ◌∷◌, ◌++◌, map, refl, sym, ◌∙◌, ap, subst, arith, true≢false, zero, zero-add}
+use Rattle.std.specs.Bool.{Decides}
 use Rattle.std.specs.List.{flat_map, filter}
 use Rattle.std.proofs.lemmas.List.{append_assoc, map-append}
 use Rattle.std.proofs.lemmas.List.Concat.{flat_map-append}
 use Rattle.std.proofs.lemmas.List.Elements.{filter-append}
-use Rattle.bags.specs.Bag.{IsEqualityTest, occurrences, SameBagBy}
+use Rattle.bags.specs.Bag.{occurrences, SameBagBy}
+
+-- the test answers true exactly where the two are equal
+pub record IsEqualityTest {X : Type 0} (eq : X → X → Bool) : Type 0 where
+  pub decides : (x y : X) → Decides (eq x y) (x ≡ y)
 
 pub occurrences-append : {X : Type 0} (eq : X → X → Bool) (x : X) (xs ys : List X) → occurrences eq x (xs ++ ys) ≡ occurrences eq x xs + occurrences eq x ys
 occurrences-append eq x [] ys = omega arith
@@ -51,6 +56,10 @@ pub record IsSplit {X : Type 0} (x : X) (xs : List X) : Type 0 where
   pub after : List X
   pub is : xs ≡ before ++ x ∷ after
 
+cond_nothing : (b : Bool) → cond b zero zero ≡ zero
+cond_nothing true = refl
+cond_nothing false = refl
+
 module _ {X : Type 0} {eq : X → X → Bool} (test : IsEqualityTest eq) where
   pub eq_itself : (x : X) → eq x x ≡ true
   eq_itself x = (test.decides x x).1 refl
@@ -70,6 +79,22 @@ module _ {X : Type 0} {eq : X → X → Bool} (test : IsEqualityTest eq) where
           let later : 0 < occurrences eq x ys = omega arith in
           let rest = in_rest later in
           record { before = y ∷ rest.before; after = rest.after; is = ap (λ zs. y ∷ zs) rest.is }
+
+  -- a filter keeps each occurrence of an element that passes, and none of another
+  pub occurrences-filter : (p : X → Bool) (x : X) (xs : List X) → occurrences eq x (filter p xs) ≡ cond (p x) (occurrences eq x xs) 0
+  occurrences-filter p x [] = sym (cond_nothing (p x))
+  occurrences-filter p x (y ∷ ys) = by (p y) refl (eq x y) refl (p x) refl (occurrences-filter p x ys)
+    where
+      by : (b : Bool) → p y ≡ b → (c : Bool) → eq x y ≡ c → (d : Bool) → p x ≡ d → occurrences eq x (filter p ys) ≡ cond d (occurrences eq x ys) 0
+          → occurrences eq x (cond b (y ∷ filter p ys) (filter p ys)) ≡ cond d (cond c 1 0 + occurrences eq x ys) 0
+      by true e true f true g rest = rw (f, rest) refl
+      by true e true f false g rest = absurd (true≢false (sym e ∙ sym (ap p ((test.decides x y).0 f)) ∙ g))
+      by true e false f true g rest = rw (f, rest) refl
+      by true e false f false g rest = rw (f, rest) refl
+      by false e true f true g rest = absurd (true≢false (sym g ∙ ap p ((test.decides x y).0 f) ∙ e))
+      by false e true f false g rest = rest
+      by false e false f true g rest = rest ∙ sym (zero-add (occurrences eq x ys))
+      by false e false f false g rest = rest
 
   -- Induction over lists that are the same bag: an element in front of the one stands anywhere in the other.
   module _ (P : List X → List X → Type 0) (none : P [] []) (step : (x : X) (xs us vs : List X) → P xs (us ++ vs) → P (x ∷ xs) (us ++ x ∷ vs)) where

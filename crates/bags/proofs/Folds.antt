@@ -1,8 +1,8 @@
 -- A fold whose steps may change places gives the same for the same bag.
 use Rattle.std.proofs.Common.{◌≡◌, Bool, List, [], ◌∷◌, ◌++◌, refl, sym, ◌∙◌, ap}
 use Rattle.std.specs.List.{fold}
-use Rattle.bags.specs.Bag.{IsEqualityTest, SameBagBy}
-use Rattle.bags.proofs.Bags.{by_bag}
+use Rattle.bags.specs.Bag.{SameBagBy}
+use Rattle.bags.proofs.Bags.{IsEqualityTest, by_bag}
 
 module _ {X B : Type 0} (f : B → X → B) (swaps : (b : B) (x y : X) → f (f b x) y ≡ f (f b y) x) where
   fold-middle : (b : B) (us : List X) (x : X) (vs : List X) → fold f b (us ++ x ∷ vs) ≡ fold f (f b x) (us ++ vs)

@@ -1,5 +1,6 @@
 pub mod Bags
 pub mod Folds
+pub mod Images
 pub mod Members
 pub mod Permutations
 pub mod Rows

@@ -3,8 +3,12 @@ use Rattle.std.proofs.Common.{◌≡◌, ◌+◌, ◌<◌, ◌≤◌, Bool, true
 use Rattle.std.specs.List.{All, Contains, IsDistinct, AllByRecursion}
 use Rattle.std.proofs.lemmas.Bool.{cases_lt}
 use Rattle.std.proofs.lemmas.List.Elements.{Contains-append_right, All-head, All-tail}
-use Rattle.bags.specs.Bag.{IsEqualityTest, occurrences, SameBagBy, HasNoRepeats}
-use Rattle.bags.proofs.Bags.{occurrences_here, split_at, SameBag-map}
+use Rattle.bags.specs.Bag.{occurrences, SameBagBy}
+use Rattle.bags.proofs.Bags.{IsEqualityTest, occurrences_here, split_at, SameBag-map}
+
+-- no element occurs twice
+abbrev pub HasNoRepeats : {X : Type 0} → (X → X → Bool) → List X → Type 0
+HasNoRepeats {X} eq xs = (x : X) → occurrences eq x xs ≤ 1
 
 module _ {X : Type 0} {eq : X → X → Bool} (test : IsEqualityTest eq) where
   pub occurs-from_Contains : (x : X) (xs : List X) → Contains xs x → 0 < occurrences eq x xs

@@ -4,8 +4,8 @@ use Rattle.std.specs.List.{All, AllZip, flat_map, range_with_len, sum_by}
 use Rattle.std.specs.List.Sorted.{IsPermutation}
 use Rattle.std.proofs.lemmas.List.Recursion.{is_sum_by}
 use Rattle.std.proofs.lemmas.List.Sorted.{IsPermutation-refl, IsPermutation-sym, IsPermutation-trans, IsPermutation-cons, IsPermutation-middle, IsPermutation-map, sum_by-IsPermutation, length_permutation, All-permutation}
-use Rattle.bags.specs.Bag.{IsEqualityTest, occurrences, SameBagBy}
-use Rattle.bags.proofs.Bags.{occurrences-append, SameBag-refl, SameBag-sym, SameBag-trans, SameBag-same, SameBag-append, by_bag}
+use Rattle.bags.specs.Bag.{occurrences, SameBagBy}
+use Rattle.bags.proofs.Bags.{IsEqualityTest, occurrences-append, SameBag-refl, SameBag-sym, SameBag-trans, SameBag-same, SameBag-append, by_bag}
 
 pub SameBag-from_permutation : {X : Type 0} (eq : X → X → Bool) (xs ys : List X) → IsPermutation xs ys → SameBagBy eq xs ys
 SameBag-from_permutation {X} eq xs ys h = record { counts = λ x. counted x xs ∙ sym (sum_by-IsPermutation (λ y. cond (eq x y) 1 0) xs ys h) ∙ sym (counted x ys) }
@@ -36,12 +36,15 @@ module _ {X : Type 0} where
       let later = at_places F d xs (a + 1) (λ i. subst (λ n. F n ≡ get_or xs i d) (omega arith) (h (suc i))) in
       λ i. here i ∷ later i
 
+  -- the elements at all places in their order are the list
+  pub map_places : (d : X) (xs : List X) → map (λ i. get_or xs i d) (range_with_len 0 (length xs)) ≡ xs
+  map_places d xs = at_places (λ i. get_or xs i d) d xs 0 (λ i. ap (λ n. get_or xs n d) (zero-add i))
+
   pub SameBag-picked : (eq : X → X → Bool) (xs : List X) (d : X) (places : List ℕ) → IsPermutation (range_with_len 0 (length xs)) places → SameBagBy eq (map (λ i. get_or xs i d) places) xs
   SameBag-picked eq xs d places h =
       let all = range_with_len 0 (length xs) in
       let moved = SameBag-from_permutation eq (map (λ i. get_or xs i d) all) (map (λ i. get_or xs i d) places) (IsPermutation-map (λ i. get_or xs i d) all places h) in
-      let whole : map (λ i. get_or xs i d) all ≡ xs = at_places (λ i. get_or xs i d) d xs 0 (λ i. ap (λ n. get_or xs n d) (zero-add i)) in
-      SameBag-trans (SameBag-sym moved) (SameBag-same whole)
+      SameBag-trans (SameBag-sym moved) (SameBag-same (map_places d xs))
 
 module _ {X : Type 0} {eq : X → X → Bool} (test : IsEqualityTest eq) where
   pub permutation_from-SameBag : (xs ys : List X) → SameBagBy eq xs ys → IsPermutation xs ys

@@ -1,14 +1,19 @@
 -- The tests and the order of rows are what the general lemmas ask.
-use Rattle.std.proofs.Common.{◌≡◌, ℕ, List, map, sym, ◌∙◌, ap}
+use Rattle.std.proofs.Common.{◌≡◌, ℕ, List, nat_eq, map, sym, ◌∙◌, ap}
+use Rattle.std.proofs.lemmas.Bool.{eqb-true, eq-eqb}
 use Rattle.std.specs.Ordering.{is_eq}
 use Rattle.std.specs.Cmp.Lexicographic.{bytes_decides, nat_list_cmp_total, texts_ties}
 use Rattle.std.specs.List.Sorted.{IsPermutation, IsSorted, IsSortedByKey}
 use Rattle.std.proofs.lemmas.List.{map-id}
 use Rattle.std.proofs.lemmas.List.Sorted.{IsPermutation-map}
-use Rattle.bags.specs.Bag.{IsEqualityTest, row_eq}
-use Rattle.bags.specs.Sorted.{IsLinearOrder, row_cmp, sorted}
+use Rattle.bags.specs.Bag.{row_eq}
+use Rattle.bags.specs.Sorted.{row_cmp, sorted}
+use Rattle.bags.proofs.Bags.{IsEqualityTest}
 use Rattle.bags.proofs.Permutations.{SameBag-from_permutation}
-use Rattle.bags.proofs.Sorting.{Ascends-from_sorted, sorted_by_unique}
+use Rattle.bags.proofs.Sorting.{IsLinearOrder, Ascends-from_sorted, sorted_by_unique}
+
+pub word_test : IsEqualityTest nat_eq
+word_test = record { decides = λ x y. (eqb-true x y, eq-eqb x y) }
 
 pub row_test : IsEqualityTest row_eq
 row_test = record { decides = bytes_decides }

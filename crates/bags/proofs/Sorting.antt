@@ -3,12 +3,17 @@ use Rattle.std.proofs.Common.{◌≡◌, Bool, true, false, cond, List, [], ◌�
 use Rattle.std.specs.Ordering.{is_lt, ordering_reverse}
 use Rattle.std.specs.declared.cmp.Ordering.TheVariants.{Less, Equal, Greater}
 use Rattle.std.specs.List.Sorted.{IsSorted, IsSortedByKey}
-use Rattle.std.specs.Cmp.{IsStrictWeakOrder}
+use Rattle.std.specs.Cmp.{IsStrictWeakOrder, IsTotalOrder}
 use Rattle.std.proofs.lemmas.Bool.{true_from_ne_false}
 use Rattle.std.proofs.lemmas.List.Sorted.{ranks_by}
-use Rattle.bags.specs.Bag.{IsEqualityTest, SameBagBy}
-use Rattle.bags.specs.Sorted.{IsLinearOrder, insert_by, sorted_by}
-use Rattle.bags.proofs.Bags.{SameBag-refl, SameBag-sym, SameBag-trans, SameBag-same, SameBag-cons, SameBag-middle, by_bag}
+use Rattle.bags.specs.Bag.{SameBagBy}
+use Rattle.bags.specs.Sorted.{insert_by, sorted_by}
+use Rattle.bags.proofs.Bags.{IsEqualityTest, SameBag-refl, SameBag-sym, SameBag-trans, SameBag-same, SameBag-cons, SameBag-middle, by_bag}
+
+-- a total order in which only equal elements tie
+pub record IsLinearOrder {X : Type 0} (cmp : X → X → Ordering) : Type 0 where
+  pub total : IsTotalOrder cmp
+  pub ties : (x y : X) → cmp x y ≡ Equal → x ≡ y
 
 -- x isn't above the first element
 abbrev pub IsFirst : {X : Type 0} → (X → X → Ordering) → X → List X → Type 0

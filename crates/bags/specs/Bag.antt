@@ -1,11 +1,6 @@
 -- How often an element occurs in a list, and lists that are the same bag.
-use Rattle.std.specs.Prelude.{◌≡◌, ℕ, ◌+◌, ◌≤◌, Bool, if◌then◌else◌, List, [], ◌∷◌, nat_eq}
-use Rattle.std.specs.Bool.{Decides}
+use Rattle.std.specs.Prelude.{◌≡◌, ℕ, ◌+◌, Bool, if◌then◌else◌, List, [], ◌∷◌, nat_eq}
 use Rattle.std.specs.Cmp.Lexicographic.{pointwise}
-
--- the test answers true exactly where the two are equal
-pub record IsEqualityTest {X : Type 0} (eq : X → X → Bool) : Type 0 where
-  pub decides : (x y : X) → Decides (eq x y) (x ≡ y)
 
 -- how often x occurs in a list, by an equality test
 abbrev pub occurrences : {X : Type 0} → (X → X → Bool) → X → List X → ℕ
@@ -15,10 +10,6 @@ occurrences eq x (y ∷ ys) = (if eq x y then 1 else 0) + occurrences eq x ys
 -- two lists are the same bag: each element occurs equally often in both
 pub record SameBagBy {X : Type 0} (eq : X → X → Bool) (xs ys : List X) : Type 0 where
   pub counts : (x : X) → occurrences eq x xs ≡ occurrences eq x ys
-
--- no element occurs twice
-abbrev pub HasNoRepeats : {X : Type 0} → (X → X → Bool) → List X → Type 0
-HasNoRepeats {X} eq xs = (x : X) → occurrences eq x xs ≤ 1
 
 -- two rows are equal: as many words, and each pair of words equal
 abbrev pub row_eq : List ℕ → List ℕ → Bool

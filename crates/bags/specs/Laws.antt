@@ -38,6 +38,10 @@ BagsOfFilter = (p : List ℕ → Bool) (xs ys : List (List ℕ)) → SameBag xs 
 abbrev pub BagsOfFlatMap : Type 0
 BagsOfFlatMap = (f g : List ℕ → List (List ℕ)) (xs ys : List (List ℕ)) → ((row : List ℕ) → SameBag (f row) (g row)) → SameBag xs ys → SameBag (flat_map f xs) (flat_map g ys)
 
+-- where f gives the same bag for rows with one image under h, the bag of the images decides
+abbrev pub BagsOfImages : Type 0
+BagsOfImages = (h : List ℕ → List ℕ) (f : List ℕ → List (List ℕ)) (xs ys : List (List ℕ)) → ((a b : List ℕ) → h a ≡ h b → SameBag (f a) (f b)) → SameBag (map h xs) (map h ys) → SameBag (flat_map f xs) (flat_map f ys)
+
 -- lists appended one after the other: the same bags in the same places, or the same lists in any order
 pub record BagsOfConcat : Type 0 where
   pub each : (xss yss : List (List (List ℕ))) → AllZip SameBag xss yss → SameBag (flat_map (λ xs. xs) xss) (flat_map (λ ys. ys) yss)

@@ -1,15 +1,8 @@
 -- The order of rows, and a list of rows in that order.
-use Rattle.std.specs.Prelude.{◌≡◌, ℕ, if◌then◌else◌, List, [], ◌∷◌}
+use Rattle.std.specs.Prelude.{ℕ, if◌then◌else◌, List, [], ◌∷◌}
 use Rattle.std.specs.declared.cmp.Ordering.{Ordering}
-use Rattle.std.specs.declared.cmp.Ordering.TheVariants.{Equal}
 use Rattle.std.specs.Ordering.{is_lt, nat_cmp}
-use Rattle.std.specs.Cmp.{IsTotalOrder}
 use Rattle.std.specs.Cmp.Lexicographic.{slice_cmp}
-
--- a total order in which only equal elements tie
-pub record IsLinearOrder {X : Type 0} (cmp : X → X → Ordering) : Type 0 where
-  pub total : IsTotalOrder cmp
-  pub ties : (x y : X) → cmp x y ≡ Equal → x ≡ y
 
 -- x before the first element that isn't below it
 abbrev pub insert_by : {X : Type 0} → (X → X → Ordering) → X → List X → List X

@@ -1,5 +1,5 @@
 //! Laws of bags and of the sorted list. Each function does nothing, and its contract is the law.
-ghost use Rattle.bags.specs.Laws.{BagsAreEquivalence, BagsArePermutations, BagsKeepRows, BagsOfAppend, BagsOfMap, BagsOfFilter, BagsOfFlatMap, BagsOfConcat, BagsOfPlaces, BagsOfFold, BagsOfSameMembers, BagsOfInjectiveMap, SortedIsInOrder, SortedIsUnique, SortedTellsBags};
+ghost use Rattle.bags.specs.Laws.{BagsAreEquivalence, BagsArePermutations, BagsKeepRows, BagsOfAppend, BagsOfMap, BagsOfFilter, BagsOfFlatMap, BagsOfImages, BagsOfConcat, BagsOfPlaces, BagsOfFold, BagsOfSameMembers, BagsOfInjectiveMap, SortedIsInOrder, SortedIsUnique, SortedTellsBags};
 
 /// Being the same bag is an equivalence.
 pub fn bags_are_equivalence()
@@ -34,6 +34,11 @@ pub fn bags_of_filter()
 /// Bags through functions that give several rows for each row.
 pub fn bags_of_flat_map()
     ensures { BagsOfFlatMap }
+{}
+
+/// Bags through a function of rows that looks at their images alone.
+pub fn bags_of_images()
+    ensures { BagsOfImages }
 {}
 
 /// Bags through appending many lists.

@@ -1,0 +1,138 @@
+-- Operators on rows of which only some columns are looked at.
+use Rattle.std.proofs.Common.{◌≡◌, ℕ, ◌+◌, ◌-◌, ◌%◌, ◌^◌, min, max, nat_eq, Bool, true, false, cond, ◌&&◌, List, [], ◌∷◌, map, length, refl, sym, ◌∙◌, ap}
+use Rattle.std.specs.List.{All, filter, flat_map, list_all}
+use Rattle.std.proofs.lemmas.List.{append-nil, length-map, map-append, map-id}
+use Rattle.std.proofs.Math.Nat.{add_assoc, add_comm, max_comm, min_comm}
+use Rattle.std.proofs.lemmas.List.Concat.{flat_map-append}
+use Rattle.std.proofs.lemmas.List.Elements.{All-filter, All-head, All-tail, All-weaker, filter-append}
+use Rattle.bags.specs.Bag.{SameBag, SameBagBy, row_eq}
+use Rattle.bags.proofs.Bags.{SameBag-append, SameBag-map, SameBag-refl, SameBag-same, SameBag-trans}
+use Rattle.bags.proofs.Folds.{fold_op_bag}
+use Rattle.bags.proofs.Permutations.{length-SameBag}
+use Rattle.bags.proofs.Images.{SameBag-through_image}
+use Rattle.bags.proofs.Rows.{row_test, word_test}
+use Rattle.plain_operators.specs.Columns.{cut, word_at}
+use Rattle.plain_operators.specs.Operators.{Aggregate, distinct_rows, grouped_row, grouped_rows, have_equal_keys, joined_row, joined_rows, joined_rows_of, key_lists, left_keys, right_keys, rows_of_items, rows_with}
+use Rattle.plain_operators.specs.Cuts.{AggregatesOfCuts, CutsAgree, DependsOn, GroupDependsOn, JoinDependsOn, OperatorsOfCuts, SameCut}
+use Rattle.plain_operators.proofs.Aggregates.{max_assoc, min_assoc}
+use Rattle.plain_operators.proofs.DistinctRows.{SameBag-distinct_rows}
+use Rattle.plain_operators.proofs.Lists.{flat_map_same, map_agree, map-flat_map, map_map, map_same}
+
+-- a test that depends on the columns keeps rows with the same bag of cuts
+kept_cuts : (width : ℕ) (columns : List ℕ) (p : List ℕ → Bool) {xs ys : List (List ℕ)} → DependsOn width columns p → SameCut width columns xs ys → SameCut width columns (filter p xs) (filter p ys)
+kept_cuts width columns p {xs} {ys} depends same =
+    let Q : List ℕ → Type 0 = λ row. length row ≡ width in
+    let one : (b : Bool) (row : List ℕ) → p row ≡ b → map (cut columns) (filter p (row ∷ [])) ≡ cond b (cut columns row ∷ []) [] = λ b row e. rw e (alone (cut columns) b row) in
+    let each : (a b : List ℕ) → Q a → Q b → cut columns a ≡ cut columns b → SameBag (map (cut columns) (filter p (a ∷ []))) (map (cut columns) (filter p (b ∷ []))) = λ a b q r e.
+    SameBag-same (one (p b) a (depends a b q r e) ∙ ap (λ row. cond (p b) (row ∷ []) []) e ∙ sym (one (p b) b refl)) in
+    record {
+      wide = All-filter p Q xs same.wide;
+      wide_too = All-filter p Q ys same.wide_too;
+      bag = SameBag-through_image row_test (cut columns) Q (λ rows. map (cut columns) (filter p rows)) (λ us vs. ap (map (cut columns)) (filter-append p us vs) ∙ map-append (cut columns) (filter p us) (filter p vs)) each same.wide same.wide_too same.bag;
+    }
+  where
+    alone : (h : List ℕ → List ℕ) (b : Bool) (row : List ℕ) → map h (cond b (row ∷ []) []) ≡ cond b (h row ∷ []) []
+    alone h true row = refl
+    alone h false row = refl
+
+-- several tests are one
+all_depend : (width : ℕ) (columns : List ℕ) (tests : List (List ℕ → Bool)) → All (DependsOn width columns) tests → DependsOn width columns (λ row. list_all (λ test. test row) tests)
+all_depend width columns [] all a b q r e = refl
+all_depend width columns (test ∷ tests) all a b q r e =
+    let first = All-head (DependsOn width columns) test tests all a b q r e in
+    let rest = all_depend width columns tests (All-tail (DependsOn width columns) test tests all) a b q r e in
+    λ i. first i && rest i
+
+-- a function of rows that depends on the columns
+mapped_cuts : {X : Type 0} {eqX : X → X → Bool} (width : ℕ) (columns : List ℕ) (f : List ℕ → X) {xs ys : List (List ℕ)} → DependsOn width columns f → SameCut width columns xs ys → SameBagBy eqX (map f xs) (map f ys)
+mapped_cuts width columns f depends same =
+    SameBag-through_image row_test (cut columns) (λ row. length row ≡ width) (map f) (map-append f) (λ a b q r e. SameBag-same (ap (λ x. x ∷ []) (depends a b q r e))) same.wide same.wide_too same.bag
+
+-- pieces that depend on the columns up to the bag
+flat_cuts : (width : ℕ) (columns : List ℕ) (f : List ℕ → List (List ℕ)) {xs ys : List (List ℕ)} → ((a b : List ℕ) → length a ≡ width → length b ≡ width → cut columns a ≡ cut columns b → SameBag (f a) (f b))
+    → SameCut width columns xs ys → SameBag (flat_map f xs) (flat_map f ys)
+flat_cuts width columns f each same =
+    SameBag-through_image row_test (cut columns) (λ row. length row ≡ width) (flat_map f) (flat_map-append f)
+    (λ a b q r e. SameBag-trans (SameBag-same (append-nil (f a))) (SameBag-trans (each a b q r e) (SameBag-same (sym (append-nil (f b)))))) same.wide same.wide_too same.bag
+
+-- pieces that are the same bag for each element of a list
+pieces_on : {X : Type 0} (f g : X → List (List ℕ)) (xs : List X) → All (λ x. SameBag (f x) (g x)) xs → SameBag (flat_map f xs) (flat_map g xs)
+pieces_on f g [] all = SameBag-refl []
+pieces_on f g (x ∷ xs) all = SameBag-append (All-head (λ z. SameBag (f z) (g z)) x xs all) (pieces_on f g xs (All-tail (λ z. SameBag (f z) (g z)) x xs all))
+
+items_cuts : (width : ℕ) (columns wanted : List ℕ) (items : List (List ℕ → ℕ)) (xs ys : List (List ℕ)) → DependsOn width columns (λ row. cut wanted (map (λ item. item row) items)) → SameCut width columns xs ys → CutsAgree wanted (rows_of_items items xs) (rows_of_items items ys)
+items_cuts width columns wanted items xs ys depends same =
+    let made = λ (row : List ℕ). map (λ (item : List ℕ → ℕ). item row) items in
+    SameBag-trans (SameBag-same (map_map (cut wanted) made xs)) (SameBag-trans (mapped_cuts width columns (λ row. cut wanted (made row)) depends same) (SameBag-same (sym (map_map (cut wanted) made ys))))
+
+-- the wanted columns of the joined rows of one left row
+wanted_of : List (ℕ × ℕ) → List ℕ → List (List ℕ) → List ℕ → List (List ℕ)
+wanted_of keys wanted rights left = map (λ right. cut wanted (joined_row keys left right)) (filter (have_equal_keys keys left) rights)
+
+joined_wanted : (keys : List (ℕ × ℕ)) (wanted : List ℕ) (lefts rights : List (List ℕ)) → map (cut wanted) (joined_rows keys lefts rights) ≡ flat_map (wanted_of keys wanted rights) lefts
+unfolding wanted_of
+joined_wanted keys wanted lefts rights =
+    map-flat_map (cut wanted) (joined_rows_of keys rights) lefts
+    ∙ flat_map_same (λ left. map (cut wanted) (joined_rows_of keys rights left)) (wanted_of keys wanted rights) (λ left. map_map (cut wanted) (joined_row keys left) (filter (have_equal_keys keys left) rights)) lefts
+
+module _ (keys : List (ℕ × ℕ)) (left_width right_width : ℕ) (left right wanted : List ℕ) (depends : JoinDependsOn keys left_width right_width left right wanted) where
+  -- left rows with equal cuts have equal wanted rows
+  same_left : DependsOn left_width left (cut (left_keys keys)) → (rights : List (List ℕ)) → All (λ row. length row ≡ right_width) rights
+      → (a b : List ℕ) → length a ≡ left_width → length b ≡ left_width → cut left a ≡ cut left b → wanted_of keys wanted rights a ≡ wanted_of keys wanted rights b
+  unfolding wanted_of
+  same_left lefts_depend rights wide a b long long_too e =
+      let kept : filter (have_equal_keys keys a) rights ≡ filter (have_equal_keys keys b) rights = ap (λ key. filter (λ row. row_eq key (cut (right_keys keys) row)) rights) (lefts_depend a b long long_too e) in
+      let f = λ (row : List ℕ). cut wanted (joined_row keys a row) in
+      let g = λ (row : List ℕ). cut wanted (joined_row keys b row) in
+      let agree : All (λ row. f row ≡ g row) (filter (have_equal_keys keys a) rights) = All-weaker (λ row. length row ≡ right_width) (λ row. f row ≡ g row) (λ row fits. depends a b row row long long_too fits fits e refl)
+      (filter (have_equal_keys keys a) rights) (All-filter (have_equal_keys keys a) (λ row. length row ≡ right_width) rights wide) in
+      map_agree f g (filter (have_equal_keys keys a) rights) agree ∙ ap (map g) kept
+
+  -- right rows with the same bag of cuts have the same bag of wanted rows
+  same_right : DependsOn right_width right (cut (right_keys keys)) → (us vs : List (List ℕ)) → SameCut right_width right us vs → (a : List ℕ) → length a ≡ left_width → SameBag (wanted_of keys wanted us a) (wanted_of keys wanted vs a)
+  unfolding wanted_of
+  same_right rights_depend us vs same a long =
+      let tested : DependsOn right_width right (have_equal_keys keys a) = λ u v fits fits_too e. ap (row_eq (cut (left_keys keys) a)) (rights_depend u v fits fits_too e) in
+      let made : DependsOn right_width right (λ row. cut wanted (joined_row keys a row)) = λ u v fits fits_too e. depends a a u v long long fits fits_too refl e in
+      mapped_cuts right_width right (λ row. cut wanted (joined_row keys a row)) made (kept_cuts right_width right (have_equal_keys keys a) tested same)
+
+  joined_cuts : DependsOn left_width left (cut (left_keys keys)) → DependsOn right_width right (cut (right_keys keys)) → (xs ys us vs : List (List ℕ))
+      → SameCut left_width left xs ys → SameCut right_width right us vs → CutsAgree wanted (joined_rows keys xs us) (joined_rows keys ys vs)
+  joined_cuts lefts_depend rights_depend xs ys us vs same same_too =
+      let moved = flat_cuts left_width left (wanted_of keys wanted us) (λ a b long long_too e. SameBag-same (same_left lefts_depend us same_too.wide a b long long_too e)) same in
+      let replaced = pieces_on (wanted_of keys wanted us) (wanted_of keys wanted vs) ys
+      (All-weaker (λ row. length row ≡ left_width) (λ row. SameBag (wanted_of keys wanted us row) (wanted_of keys wanted vs row)) (same_right rights_depend us vs same_too) ys same.wide_too) in
+      SameBag-trans (SameBag-same (joined_wanted keys wanted xs us)) (SameBag-trans moved (SameBag-trans replaced (SameBag-same (sym (joined_wanted keys wanted ys vs)))))
+
+distinct_cuts : (width : ℕ) (columns : List ℕ) (xs ys : List (List ℕ)) → DependsOn width columns (λ row. row) → SameCut width columns xs ys → SameBag (distinct_rows xs) (distinct_rows ys)
+distinct_cuts width columns xs ys depends same =
+    let whole : SameBag (map (λ row. row) xs) (map (λ row. row) ys) = mapped_cuts width columns (λ row. row) depends same in
+    SameBag-distinct_rows (SameBag-trans (SameBag-same (sym (map-id xs))) (SameBag-trans whole (SameBag-same (map-id ys))))
+
+grouped_cuts : (keys : List ℕ) (aggregates : List Aggregate) (width : ℕ) (columns wanted : List ℕ) (xs ys : List (List ℕ)) → DependsOn width columns (cut keys) → GroupDependsOn aggregates width columns wanted
+    → SameCut width columns xs ys → CutsAgree wanted (grouped_rows keys aggregates xs) (grouped_rows keys aggregates ys)
+grouped_cuts keys aggregates width columns wanted xs ys keyed depends same =
+    let lists : SameBag (key_lists keys xs) (key_lists keys ys) = SameBag-distinct_rows (mapped_cuts width columns (cut keys) keyed same) in
+    let f = λ (key : List ℕ). cut wanted (grouped_row keys aggregates xs key) in
+    let g = λ (key : List ℕ). cut wanted (grouped_row keys aggregates ys key) in
+    let each : (key : List ℕ) → f key ≡ g key = λ key.
+    depends key (rows_with keys xs key) (rows_with keys ys key) (kept_cuts width columns (λ row. row_eq (cut keys row) key) (λ a b long long_too e. ap (λ own. row_eq own key) (keyed a b long long_too e)) same) in
+    SameBag-trans (SameBag-same (map_map (cut wanted) (grouped_row keys aggregates xs) (key_lists keys xs)))
+    (SameBag-trans (SameBag-map row_test f lists) (SameBag-same (map_same f g each (key_lists keys ys) ∙ sym (map_map (cut wanted) (grouped_row keys aggregates ys) (key_lists keys ys)))))
+
+pub operators_of_cuts : OperatorsOfCuts
+operators_of_cuts = record {
+  kept = λ width columns tests xs ys all same. (let p = λ (row : List ℕ). list_all (λ (test : List ℕ → Bool). test row) tests in let rows : SameCut width columns (filter p xs) (filter p ys) = kept_cuts width columns p (all_depend width columns tests all) same in rows.bag);
+  items = items_cuts;
+  joined = λ keys left_width right_width left right wanted xs ys us vs lefts_depend rights_depend depends. joined_cuts keys left_width right_width left right wanted depends lefts_depend rights_depend xs ys us vs;
+  distinct = distinct_cuts;
+  grouped = grouped_cuts;
+}
+
+pub aggregates_of_cuts : AggregatesOfCuts
+aggregates_of_cuts = record {
+  counts = λ width columns xs ys same. sym (length-map xs (cut columns)) ∙ length-SameBag row_test same.bag ∙ length-map ys (cut columns);
+  words = λ width columns column xs ys depends same.
+      (let words : SameBagBy nat_eq (map (word_at column) xs) (map (word_at column) ys) = mapped_cuts width columns (word_at column) depends same in
+      (ap (λ n. n % 2 ^ 64) (fold_op_bag (λ a x. a + x) add_assoc add_comm word_test _ _ words 0), fold_op_bag min min_assoc min_comm word_test _ _ words (2 ^ 64 - 1), fold_op_bag max max_assoc max_comm word_test _ _ words 0));
+}

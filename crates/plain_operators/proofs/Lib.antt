@@ -1,0 +1,9 @@
+pub mod Aggregates
+pub mod Cuts
+pub mod DistinctRows
+pub mod Groups
+pub mod Joins
+pub mod Lists
+pub mod Places
+pub mod Regroup
+pub mod Sizes

@@ -1,0 +1,37 @@
+-- Filter and join by the places of rows, and aggregates as folds over words.
+use Rattle.std.specs.Prelude.{◌≡◌, ℕ, ◌+◌, ◌%◌, ◌^◌, ◌<◌, Bool, List, [], length, map, slice_index_or}
+use Rattle.std.specs.List.{filter, flat_map, fold, list_all, range_with_len}
+use Rattle.plain_operators.specs.Columns.{word_at}
+use Rattle.plain_operators.specs.Operators.{Sum, Count, aggregated, have_equal_keys, joined_row, joined_rows, kept_rows}
+
+-- the places of a list of rows, from 0
+abbrev pub places_of : List (List ℕ) → List ℕ
+places_of rows = range_with_len 0 (length rows)
+
+-- the row at a place
+abbrev pub row_at : List (List ℕ) → ℕ → List ℕ
+row_at rows place = slice_index_or rows place []
+
+-- a filter is the rows at the places that pass, in order
+abbrev pub FilterOfPlaces : Type 0
+FilterOfPlaces = (tests : List (List ℕ → Bool)) (rows : List (List ℕ))
+    → kept_rows tests rows ≡ map (row_at rows) (filter (λ place. list_all (λ test. test (row_at rows place)) tests) (places_of rows))
+
+-- the pairs of a left and a right place with equal keys, in nested order
+abbrev pub matching_places : List (ℕ × ℕ) → List (List ℕ) → List (List ℕ) → List (ℕ × ℕ)
+matching_places keys lefts rights =
+    flat_map (λ left. map (λ right. (left, right)) (filter (λ right. have_equal_keys keys (row_at lefts left) (row_at rights right)) (places_of rights))) (places_of lefts)
+
+-- a join is the joined rows of the matching pairs of places
+abbrev pub JoinOfPlaces : Type 0
+JoinOfPlaces = (keys : List (ℕ × ℕ)) (lefts rights : List (List ℕ))
+    → joined_rows keys lefts rights ≡ map (λ pair. joined_row keys (row_at lefts pair.0) (row_at rights pair.1)) (matching_places keys lefts rights)
+
+-- the sum of two words
+abbrev pub add_words : ℕ → ℕ → ℕ
+add_words a b = (a + b) % 2 ^ 64
+
+-- sums and counts are folds of one operation on words: a count adds up ones, where there are fewer than 2^64 rows
+pub record AggregatesAreFolds : Type 0 where
+  pub sums : (column : ℕ) (rows : List (List ℕ)) → aggregated (Sum column) rows ≡ fold add_words 0 (map (word_at column) rows)
+  pub counts : (rows : List (List ℕ)) → length rows < 2 ^ 64 → aggregated Count rows ≡ fold add_words 0 (map (λ row. 1) rows)

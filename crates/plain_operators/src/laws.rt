@@ -1,0 +1,81 @@
+//! Laws of the operators. Each function does nothing, and its contract is the law.
+ghost use Rattle.plain_operators.specs.Cuts.{AggregatesOfCuts, OperatorsOfCuts};
+ghost use Rattle.plain_operators.specs.Laws.{OperatorsKeepBags, OperatorsOfAppend, GroupOfBlocks, WholeTableIsGroup, DistinctIsGroup};
+ghost use Rattle.plain_operators.specs.Places.{AggregatesAreFolds, FilterOfPlaces, JoinOfPlaces};
+ghost use Rattle.plain_operators.specs.Regroup.{AggregatesOfAppend, RegroupOfParts};
+ghost use Rattle.plain_operators.specs.Sizes.{OperatorCounts, OperatorsKeepWidths, OperatorsKeepWords};
+
+/// Each operator gives the same bag for the same bags.
+pub fn operators_keep_bags()
+    ensures { OperatorsKeepBags }
+{}
+
+/// Filter, select and join of appended lists.
+pub fn operators_of_append()
+    ensures { OperatorsOfAppend }
+{}
+
+/// Rows cut into blocks of equal keys have as their group one row for each block.
+pub fn group_of_blocks()
+    ensures { GroupOfBlocks }
+{}
+
+/// A group without keys is the group by no column.
+pub fn whole_table_is_group()
+    ensures { WholeTableIsGroup }
+{}
+
+/// Distinct rows are the group by all columns without aggregates.
+pub fn distinct_is_group()
+    ensures { DistinctIsGroup }
+{}
+
+/// The rows of each operator are as wide as its columns.
+pub fn operators_keep_widths()
+    ensures { OperatorsKeepWidths }
+{}
+
+/// Each operator gives words below 2^64 for such words.
+pub fn operators_keep_words()
+    ensures { OperatorsKeepWords }
+{}
+
+/// How many rows each operator gives at most.
+pub fn operator_counts()
+    ensures { OperatorCounts }
+{}
+
+/// An aggregate of appended rows is combined from those of the parts.
+pub fn aggregates_of_append()
+    ensures { AggregatesOfAppend }
+{}
+
+/// Grouping the groups of parts again is grouping the rows of all parts.
+pub fn regroup_of_parts()
+    ensures { RegroupOfParts }
+{}
+
+/// A filter is the rows at the places that pass.
+pub fn filter_of_places()
+    ensures { FilterOfPlaces }
+{}
+
+/// A join is the joined rows of the matching pairs of places, in nested order.
+pub fn join_of_places()
+    ensures { JoinOfPlaces }
+{}
+
+/// Sums and counts are folds of the addition of words.
+pub fn aggregates_are_folds()
+    ensures { AggregatesAreFolds }
+{}
+
+/// What is wanted of each operator's rows has the same bag where the columns that it depends on have.
+pub fn operators_of_cuts()
+    ensures { OperatorsOfCuts }
+{}
+
+/// Aggregates of columns that depend on some columns are the same where the bags of these are.
+pub fn aggregates_of_cuts()
+    ensures { AggregatesOfCuts }
+{}
