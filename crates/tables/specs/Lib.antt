@@ -3,3 +3,4 @@ pub mod Table
 pub mod Records
 pub mod Outcome
 pub mod File
+pub mod Answer

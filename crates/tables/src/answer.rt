@@ -1,0 +1,167 @@
+//! The text of an answer.
+#![tactic(auto)]
+
+ghost use Rattle.std.specs.Prelude.{◌≡◌, ℕ, List, [], ◌∷◌, ◌++◌, length, map, All, IfOk, OnOk, Some};
+ghost use Rattle.csv.specs.Records.{fields_of, partial_of};
+ghost use Rattle.csv.specs.Writing.{default_writer, row_text};
+ghost use Rattle.words.specs.Columns.{names_of, kinds_of};
+ghost use Rattle.tables.specs.Answer.{AnswersOfEqualBags, HasText, answer_of, fields_written_of, rows_text, written};
+
+use crate::Table;
+use bags::sort_rows;
+use csv::{ByteRecord, Writer};
+use itoa::Buffer;
+use std::alloc::{AllocError, Global};
+use std::io::Write;
+use words::{Column, Kind};
+
+/// The text of a table as an answer: a header with the columns' names, and then the rows in the order of
+/// their words, each as a record that ends with a line feed.
+///
+/// It depends on the columns and on how often each row occurs, and not on the order of the rows. A number
+/// is written in shortest decimal. Takes n log n comparisons of rows and one pass of writing.
+pub fn answer_text(alloc: Global, table: &Table) -> Result<Vec<u8>, AllocError>
+    ensures text { IfOk result (λ text. text.items ≡ answer_of table.now) }
+{
+    let mut rows = lent_rows(alloc, table)?;
+    sort_rows(&mut rows);
+    write_rows(alloc, table.columns().as_slice(), rows.as_slice())
+}
+
+/// A law: tables with the same columns and the same bag of rows have the same answer.
+pub fn answers_of_equal_bags()
+    ensures { AnswersOfEqualBags }
+{}
+
+// The rows of a table, in its order.
+fn lent_rows<'a>(alloc: Global, table: &'a Table) -> Result<Vec<&'a [u64]>, AllocError>
+    ensures { IfOk result (λ rows. map (λ row. row.now) rows.items ≡ table.now.rows) }
+{
+    let mut rows = Vec::with_capacity(alloc, table.rows())?;
+    for index in 0..table.rows() {
+        rows.push(table.row(index))?;
+    }
+    Ok(rows)
+}
+
+// The header and the rows as they come.
+fn write_rows(alloc: Global, columns: &[Column], rows: &[&[u64]]) -> Result<Vec<u8>, AllocError>
+    requires { All (λ row. length row ≡ length columns.now) (map (λ row. row.now) rows.now) }
+    ensures { IfOk result (λ text. text.items ≡ rows_text columns.now (map (λ row. row.now) rows.now)) }
+{
+    let mut writer = Writer::from_writer(Vec::new(alloc));
+    let header = header_fields(alloc, columns)?;
+    put_record(&mut writer, &header)?;
+    // Its memory serves each row.
+    let mut fields = header;
+    for row in rows {
+        fill_record(&mut fields, columns, row)?;
+        put_record(&mut writer, &fields)?;
+    }
+    match writer.into_inner() {
+        Ok(text) => Ok(text),
+        Err(_) => Err(AllocError),
+    }
+}
+
+// The record of the columns' names.
+fn header_fields(alloc: Global, columns: &[Column]) -> Result<ByteRecord, AllocError>
+    ensures { IfOk result (λ fields. fields_of fields ≡ names_of columns.now) }
+{
+    let mut fields = ByteRecord::new(alloc);
+    for column in columns {
+        fields.push_field(column.name.bytes())?;
+    }
+    Ok(fields)
+}
+
+// Makes the record that of a row.
+fn fill_record(fields: &mut ByteRecord, columns: &[Column], row: &[u64]) -> Result<(), AllocError>
+    requires { length row.now ≡ length columns.now }
+    ensures { OnOk result (fields_of fields.new ≡ fields_written_of (kinds_of columns.now) row.now) }
+{
+    fields.clear();
+    let mut digits = Buffer::new();
+    for (index, word) in row.iter().enumerate() {
+        push_word(fields, &mut digits, columns[index].kind, *word)?;
+    }
+    Ok(())
+}
+
+// One more field behind whole fields.
+fn push_word(
+    fields: &mut ByteRecord,
+    digits: &mut Buffer,
+    kind: Kind,
+    word: u64,
+) -> Result<(), AllocError>
+    requires { partial_of fields.old ≡ [] }
+    ensures fields { OnOk result (fields_of fields.new ≡ fields_of fields.old ++ written kind word ∷ []) }
+    ensures whole { OnOk result (partial_of fields.new ≡ []) }
+{
+    match kind {
+        Kind::Num => fields.push_field(digits.format(word).as_bytes()),
+    }
+}
+
+// Writes a record behind whole records. All that can fail is memory.
+fn put_record<W: Write + Drop>(
+    writer: &mut Writer<W>,
+    fields: &ByteRecord,
+) -> Result<(), AllocError>
+    ensures { OnOk result ((text : List ℕ) → HasText W.contents writer.old text
+        → HasText W.contents writer.new (text ++ row_text default_writer (fields_of fields.now))) }
+{
+    match writer.write_byte_record(fields) {
+        Ok(()) => Ok(()),
+        Err(_) => Err(AllocError),
+    }
+}
+
+#[cfg(test)]
+mod tests {
+    use super::*;
+    use std::test::Fail;
+    use words::Label;
+
+    // A table of numbers; a row of another length would be missing in the answer.
+    fn table_with_rows(alloc: Global, names: &[&[u8]], rows: &[&[u64]]) -> Result<Table, Fail> {
+        let mut columns = Vec::new(alloc);
+        for name in names {
+            let name = Label::new(alloc, name)?;
+            let kind = Kind::Num;
+            columns.push(Column { name, kind })?;
+        }
+        let mut table = Table::new(alloc, columns);
+        for row in rows {
+            if row.len() == table.columns().len() {
+                table.push(row)?;
+            }
+        }
+        Ok(table)
+    }
+
+    #[test]
+    fn writes_header_and_rows_in_order(rt: HostRuntime) -> Result<(), Fail> {
+        let cases: [(&[&[u8]], &[&[u64]], &[u8]); 5] = [
+            (&[b"x"], &[], b"x\n"),
+            (
+                &[b"x", b"y"],
+                &[&[2, 9], &[1, 8], &[2, 7]],
+                b"x,y\n1,8\n2,7\n2,9\n",
+            ),
+            (&[b"z"], &[&[10], &[9], &[10], &[0]], b"z\n0\n9\n10\n10\n"),
+            (
+                &[b"n"],
+                &[&[u64::MAX], &[2139]],
+                b"n\n2139\n18446744073709551615\n",
+            ),
+            (&[b"a,b", b""], &[&[1, 2]], b"\"a,b\",\n1,2\n"),
+        ];
+        for (names, rows, want) in cases {
+            let table = table_with_rows(rt.alloc(), names, rows)?;
+            assert!(rt; answer_text(rt.alloc(), &table)?.as_slice() == want);
+        }
+        Ok(())
+    }
+}
