@@ -1,5 +1,4 @@
 pub mod Environment
-pub mod Gates
 pub mod Growth
 pub mod Held
 pub mod HeldLaws

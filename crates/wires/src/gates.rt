@@ -6,7 +6,7 @@ ghost use Rattle.lanes.specs.Lanes.{lanewise, lanewise1, picked};
 ghost use Rattle.lanes.specs.Word.{word_not};
 ghost use Rattle.wires.specs.Environment.{Environment, words, all_words};
 ghost use Rattle.wires.specs.Growth.{Carries, Grows, IsMade, AreMade, KeepsWires, HasLanes, lanes_of, total_lanes, capped};
-ghost use Rattle.wires.specs.Gates.{shifted_left, shifted_right, spread_word};
+ghost use Rattle.lanes.specs.Shifts.{shifted_left, shifted_right, spread_word};
 
 use crate::Wire;
 use std::alloc::AllocError;

@@ -4,7 +4,7 @@
 ghost use Rattle.std.specs.Prelude.{◌≡◌, ◌≤◌, length, IfOk, bit_and, bit_xor};
 ghost use Rattle.lanes.specs.Lanes.{lanewise, lanewise1};
 ghost use Rattle.lanes.specs.Word.{word_not};
-ghost use Rattle.wires.specs.Gates.{shifted_left, shifted_right, spread_word};
+ghost use Rattle.lanes.specs.Shifts.{shifted_left, shifted_right, spread_word};
 
 use std::alloc::{AllocError, Global};
 

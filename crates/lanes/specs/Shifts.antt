@@ -1,4 +1,4 @@
--- The operations on one word that cost nothing.
+-- Shifts of a word, and its bit 0 spread over it.
 use Rattle.std.specs.Prelude.{ℕ, ◌*◌, ◌/◌, ◌%◌, ◌^◌, ◌-◌}
 
 -- a shift towards the high bits, of which those beyond the word fall away
