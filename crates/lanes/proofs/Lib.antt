@@ -5,3 +5,5 @@ pub mod LaneLemmas
 pub mod WordsKept
 pub mod SharedAnd
 pub mod PartyLemmas
+pub mod Carries
+pub mod WordSums

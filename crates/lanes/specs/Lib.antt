@@ -3,3 +3,6 @@ pub mod Lanes
 pub mod Party
 pub mod Three
 pub mod Laws
+pub mod Shifts
+pub mod Sums
+pub mod Carry

@@ -1,8 +1,9 @@
 //! Tables: columns and rows of words, how a file is read as one, and how an answer is written.
 //!
-//! Stands on `words` for the meaning of a field and on the kit's `csv` for records. A table is seen as its
+//! Stands on `words` for the meaning of a field, on `bags` and on the kit's `csv` for records. A table is seen as its
 //! columns and its list of rows, each as long as the columns. The main promise: `read_table` answers
-//! exactly the table that a file's records are under a declaration, or that they are none.
+//! exactly the table that a file's records are under a declaration, or that they are none, and
+//! `answer_text` the text of a table, a function of its columns and of the bag of its rows.
 #![tactic(auto)]
 
 mod answer;

@@ -1,0 +1,2 @@
+pub mod LaneLoops
+pub mod Sources
