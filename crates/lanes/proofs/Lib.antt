@@ -7,3 +7,5 @@ pub mod SharedAnd
 pub mod PartyLemmas
 pub mod Carries
 pub mod WordSums
+pub mod WordChoice
+pub mod WordProduct

@@ -6,3 +6,5 @@ pub mod Laws
 pub mod Shifts
 pub mod Sums
 pub mod Carry
+pub mod Fold
+pub mod Product

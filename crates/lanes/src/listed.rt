@@ -29,6 +29,7 @@ impl<T> Model for Listed<T> {
 }
 
 impl<T> Listed<T> {
+    /// An empty list, which takes no memory yet.
     pub fn new(alloc: Global) -> Listed<T>
         ensures { result ≡ [] }
     {
@@ -45,12 +46,14 @@ impl<T> Listed<T> {
         Ok(Listed { items })
     }
 
+    /// The items of a vector, with no copy.
     pub fn from_vec(items: Vec<T>) -> Listed<T>
         ensures { result ≡ items.items }
     {
         Listed { items }
     }
 
+    /// The items in a vector, with no copy.
     pub fn into_vec(self) -> Vec<T>
         ensures { result.items ≡ self }
     {
@@ -58,6 +61,7 @@ impl<T> Listed<T> {
         items
     }
 
+    /// The items as a slice.
     pub fn as_slice(&self) -> &[T]
         ensures value { result.now ≡ self.now }
         ensures len { length result.now ≡ length self.now }
@@ -65,18 +69,21 @@ impl<T> Listed<T> {
         self.items.as_slice()
     }
 
+    /// How many items there are.
     pub fn len(&self) -> usize
         ensures { result ≡ length self.now }
     {
         self.items.len()
     }
 
+    /// Whether there is none.
     pub fn is_empty(&self) -> bool
         ensures { IsTrue result ↔ (self.now ≡ []) }
     {
         self.items.is_empty()
     }
 
+    /// Lends the item of this index, from 0, or nothing where there is none.
     pub fn get(&self, index: usize) -> Option<&T>
         ensures { option_copied result ≡ slice_get self.now index }
     {
@@ -95,6 +102,7 @@ impl<T> Listed<T> {
 }
 
 impl<T: Drop> Listed<T> {
+    /// Puts an item in the place of the one of this index, which has to be there.
     pub fn set(&mut self, index: usize, item: T)
         requires { index < length self.old }
         ensures { self.new ≡ slice_set self.old index item }
@@ -104,6 +112,7 @@ impl<T: Drop> Listed<T> {
 }
 
 impl<T: Copy> Listed<T> {
+    /// A copy of a slice.
     pub fn from_slice(alloc: Global, items: &[T]) -> Result<Listed<T>, AllocError>
         ensures { IfOk result (λ s. s ≡ items.now) }
     {
