@@ -164,7 +164,7 @@ distinct_single key (x ∷ xs) = by (row_eq x key) refl (distinct_single key xs)
         rw (e, nat_list_eq_equiv.symm key x, e) (kept ∙ rest)
 
 -- one more row
-distinct_more : (rows : List (List ℕ)) (row : List ℕ) → distinct_rows (rows ++ row ∷ []) ≡ distinct_rows rows ++ cond (not (among rows row)) (row ∷ []) []
+pub distinct_more : (rows : List (List ℕ)) (row : List ℕ) → distinct_rows (rows ++ row ∷ []) ≡ distinct_rows rows ++ cond (not (among rows row)) (row ∷ []) []
 distinct_more rows row = distinct-append rows (row ∷ [])
 
 among_more : (rows : List (List ℕ)) (row other : List ℕ) → among (rows ++ row ∷ []) other ≡ cond (row_eq row other) true (among rows other)

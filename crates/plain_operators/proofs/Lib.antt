@@ -3,6 +3,7 @@ pub mod Cuts
 pub mod DistinctRows
 pub mod Groups
 pub mod Joins
+pub mod KeyPlaces
 pub mod Lists
 pub mod Places
 pub mod Regroup

@@ -1,8 +1,9 @@
 -- Filter and join by the places of rows, and aggregates as folds over words.
 use Rattle.std.specs.Prelude.{◌≡◌, ℕ, ◌+◌, ◌%◌, ◌^◌, ◌<◌, Bool, List, [], length, map, slice_index_or}
 use Rattle.std.specs.List.{filter, flat_map, fold, list_all, range_with_len}
+use Rattle.bags.specs.Bag.{row_eq}
 use Rattle.plain_operators.specs.Columns.{word_at}
-use Rattle.plain_operators.specs.Operators.{Sum, Count, aggregated, have_equal_keys, joined_row, joined_rows, kept_rows}
+use Rattle.plain_operators.specs.Operators.{Sum, Count, aggregated, distinct_rows, have_equal_keys, joined_row, joined_rows, kept_rows}
 
 -- the places of a list of rows, from 0
 abbrev pub places_of : List (List ℕ) → List ℕ
@@ -16,6 +17,14 @@ row_at rows place = slice_index_or rows place []
 abbrev pub FilterOfPlaces : Type 0
 FilterOfPlaces = (tests : List (List ℕ → Bool)) (rows : List (List ℕ))
     → kept_rows tests rows ≡ map (row_at rows) (filter (λ place. list_all (λ test. test (row_at rows place)) tests) (places_of rows))
+
+-- the places of the rows that are this row, in order
+abbrev pub places_with : List (List ℕ) → List ℕ → List ℕ
+places_with rows key = filter (λ place. row_eq (row_at rows place) key) (places_of rows)
+
+-- the places of each distinct row, in the order of the first ones
+abbrev pub grouped_places : List (List ℕ) → List (List ℕ)
+grouped_places rows = map (places_with rows) (distinct_rows rows)
 
 -- the pairs of a left and a right place with equal keys, in nested order
 abbrev pub matching_places : List (ℕ × ℕ) → List (List ℕ) → List (List ℕ) → List (ℕ × ℕ)

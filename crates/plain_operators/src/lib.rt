@@ -8,6 +8,8 @@
 #![tactic(auto)]
 
 mod distinct;
+mod key_places;
 pub mod laws;
 
 pub use distinct::distinct_rows;
+pub use key_places::grouped_places;

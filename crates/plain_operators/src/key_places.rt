@@ -1,0 +1,71 @@
+ghost use Rattle.std.specs.Prelude.{◌≡◌, ◌∷◌, ◌++◌, [], ◌<◌, map, vec_len, slice_set, slice_index_or, IfOk, OnOk};
+ghost use Rattle.plain_operators.specs.Places as plain;
+
+use std::alloc::{AllocError, Global};
+use std::collections::BTreeMap;
+
+/// The places, from 0, of each distinct row: one list for each, in the order of the first places.
+///
+/// With rows cut to keys these are the places of each group. The rows are lent and none is copied. Takes a look-up
+/// for each row in a map of the distinct ones, n log n comparisons.
+pub fn grouped_places(alloc: Global, rows: &[&[u64]]) -> Result<Vec<Vec<usize>>, AllocError>
+    ensures { IfOk result (λ groups. map (λ places. places.items) groups.items ≡ plain.grouped_places (map (λ row. row.now) rows.now)) }
+{
+    let mut numbers = BTreeMap::new(alloc);
+    let mut groups = Vec::new(alloc);
+    for (place, row) in rows.iter().enumerate() {
+        match numbers.get(*row).copied() {
+            Some(number) => add_place(&mut groups, number, place)?,
+            None => {
+                numbers.insert(*row, groups.len())?;
+                groups.push(one_place(alloc, place)?)?;
+            }
+        }
+    }
+    Ok(groups)
+}
+
+// One more place in a group.
+fn add_place(groups: &mut Vec<Vec<usize>>, number: usize, place: usize) -> Result<(), AllocError>
+    requires { number < vec_len groups.old }
+    ensures { OnOk result (map (λ places. places.items) groups.new.items
+        ≡ slice_set (map (λ places. places.items) groups.old.items) number (slice_index_or (map (λ places. places.items) groups.old.items) number [] ++ place ∷ [])) }
+{
+    groups[number].push(place)?;
+    Ok(())
+}
+
+// A group of one place.
+fn one_place(alloc: Global, place: usize) -> Result<Vec<usize>, AllocError>
+    ensures { IfOk result (λ places. places.items ≡ place ∷ []) }
+{
+    let mut places = Vec::new(alloc);
+    places.push(place)?;
+    Ok(places)
+}
+
+#[cfg(test)]
+mod tests {
+    use super::*;
+    use std::test::Fail;
+
+    #[test]
+    fn gathers_places_by_first_occurrence(rt: HostRuntime) -> Result<(), Fail> {
+        let cases: [(&[&[u64]], &[&[usize]]); 3] = [
+            (&[], &[]),
+            (
+                &[&[7], &[5], &[7], &[7], &[1, 0], &[5]],
+                &[&[0, 2, 3], &[1, 5], &[4]],
+            ),
+            (&[&[], &[0], &[]], &[&[0, 2], &[1]]),
+        ];
+        for (rows, want) in cases {
+            let groups = grouped_places(rt.alloc(), rows)?;
+            assert_eq!(rt; groups.len(), want.len());
+            for (places, wanted) in groups.iter().zip(want) {
+                assert!(rt; places.as_slice() == *wanted);
+            }
+        }
+        Ok(())
+    }
+}
