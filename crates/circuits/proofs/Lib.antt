@@ -1,0 +1,3 @@
+pub mod LaneValues
+pub mod Restated
+pub mod Levels

@@ -1,0 +1,44 @@
+-- The values of circuits on lists of words.
+use Rattle.std.specs.Prelude.{ℕ, List, [], ◌∷◌, bit_and, bit_xor}
+use Rattle.lanes.specs.Carry.{carries_word}
+use Rattle.lanes.specs.Fold.{folded_word}
+use Rattle.lanes.specs.Lanes.{lanewise, lanewise1}
+use Rattle.lanes.specs.Shifts.{shifted_left, shifted_right, spread_word}
+use Rattle.lanes.specs.Sums.{chosen_word, sum_word}
+use Rattle.lanes.specs.Word.{word_not}
+
+-- in each lane the first word where bit 0 of the flag is 1, and else the second
+abbrev pub chosen_lanes : List ℕ → List ℕ → List ℕ → List ℕ
+chosen_lanes [] ones others = []
+chosen_lanes (flag ∷ flags) [] others = []
+chosen_lanes (flag ∷ flags) (one ∷ ones) [] = []
+chosen_lanes (flag ∷ flags) (one ∷ ones) (other ∷ others) = chosen_word flag one other ∷ chosen_lanes flags ones others
+
+-- the same as the second words, changed where the spread flag lets the difference through
+unfoldable pub masked_choice : List ℕ → List ℕ → List ℕ → List ℕ
+masked_choice flags ones others = lanewise bit_xor others (lanewise bit_and (lanewise1 spread_word flags) (lanewise bit_xor ones others))
+
+-- one step of a fold: each bit with the one so many places above it
+unfoldable pub fold_lanes : ℕ → List ℕ → List ℕ
+fold_lanes places xs = lanewise bit_and xs (lanewise1 (shifted_right places) xs)
+
+-- the fold of the bits that two words share
+unfoldable pub shared_fold : List ℕ → List ℕ → List ℕ
+shared_fold xs ys = lanewise1 (folded_word 6) (lanewise1 word_not (lanewise bit_xor xs ys))
+
+-- one step of a prefix: spans of twice as many places
+unfoldable pub wider_generates : ℕ → List ℕ → List ℕ → List ℕ
+wider_generates places gs ps = lanewise bit_xor gs (lanewise bit_and ps (lanewise1 (shifted_left places) gs))
+
+unfoldable pub wider_propagates : ℕ → List ℕ → List ℕ
+wider_propagates places ps = lanewise bit_and ps (lanewise1 (shifted_left places) ps)
+
+-- a sum by its carries, a comparison by the last of them, and a difference by a sum
+unfoldable pub sum_lanes : List ℕ → List ℕ → List ℕ
+sum_lanes xs ys = lanewise bit_xor (lanewise bit_xor xs ys) (lanewise1 (shifted_left 1) (lanewise carries_word xs ys))
+
+unfoldable pub less_lanes : List ℕ → List ℕ → List ℕ
+less_lanes xs ys = lanewise1 (shifted_right 63) (lanewise carries_word (lanewise1 word_not xs) ys)
+
+unfoldable pub difference_lanes : List ℕ → List ℕ → List ℕ
+difference_lanes xs ys = lanewise1 word_not (lanewise sum_word (lanewise1 word_not xs) ys)
