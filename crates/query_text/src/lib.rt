@@ -1,0 +1,20 @@
+//! The query text: reads a text into its statements, or gives the one place where it stops being a
+//! query, and prints statements in their one spelling.
+#![tactic(auto)]
+
+mod bytes;
+mod operand;
+mod parts;
+mod query;
+mod sequence;
+mod statement;
+
+pub use bytes::Bytes;
+pub use operand::{Cmp, KindText, Op, OperandText};
+pub use parts::{AggregateText, ColumnText, ItemText, TestText};
+pub use query::{Query, ReadFault};
+pub use sequence::Sequence;
+pub use statement::{
+    Body, ConcatText, DistinctText, FilterText, GroupText, JoinText, OutputText, RelationText,
+    SelectText, Statement,
+};
