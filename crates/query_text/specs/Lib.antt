@@ -1,3 +1,5 @@
 pub mod Parties
 pub mod Spelling
 pub mod Grammar
+pub mod Reading
+pub mod Forms

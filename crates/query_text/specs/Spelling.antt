@@ -1,5 +1,6 @@
 -- The one list of tokens by which each statement is spelled.
 use Rattle.std.specs.Prelude.{ℕ, List, [], ◌∷◌, ◌++◌, map, Option, Some, None}
+use Rattle.std.specs.List.{flat_map}
 use Rattle.query_tokens.specs.Token.{Token, name, number, quoted, keyword, sign}
 use Rattle.query_tokens.specs.declared.keyword.Keyword.{Keyword}
 use Rattle.query_tokens.specs.declared.keyword.Keyword.TheVariants as word
@@ -29,11 +30,11 @@ use Rattle.query_text.specs.declared.statement.OutputText.{OutputText}
 use Rattle.query_text.specs.declared.statement.Body.{Body}
 use Rattle.query_text.specs.declared.statement.Body.TheVariants as bodies
 
--- each spelled, with this token before each but the first
+-- each spelled behind this token
 abbrev pub led : {A T : Type 0} → T → (A → List T) → List A → List T
-led separator spell [] = []
-led separator spell (x ∷ xs) = separator ∷ (spell x ++ led separator spell xs)
+led separator spell xs = flat_map (λ x. separator ∷ spell x) xs
 
+-- each spelled, with this token between them
 abbrev pub separated : {A T : Type 0} → T → (A → List T) → List A → List T
 separated separator spell [] = []
 separated separator spell (x ∷ xs) = spell x ++ led separator spell xs
@@ -47,10 +48,14 @@ optional spell (Some x) = spell x
 abbrev pub parties : List ℕ → List Token
 parties ps = map number ps
 
+-- a list behind this token, or nothing where it is empty
+abbrev pub if_any : {A T : Type 0} → T → (List A → List T) → List A → List T
+if_any lead spell [] = []
+if_any lead spell (x ∷ xs) = lead ∷ spell (x ∷ xs)
+
 -- a word and the parties behind it, or nothing where there are none
 abbrev pub parties_after : Keyword → List ℕ → List Token
-parties_after k [] = []
-parties_after k (p ∷ ps) = keyword k ∷ parties (p ∷ ps)
+parties_after k ps = if_any (keyword k) parties ps
 
 abbrev pub one_name : List ℕ → List Token
 one_name n = name n ∷ []
@@ -128,8 +133,7 @@ via p = keyword word.Via ∷ number p ∷ []
 
 -- [by C {, C}]
 abbrev pub keys : List (List ℕ) → List Token
-keys [] = []
-keys (c ∷ cs) = keyword word.By ∷ names (c ∷ cs)
+keys cs = if_any (keyword word.By) names cs
 
 -- relation N of P rows K ( COLUMN {, COLUMN} ) [release PS]
 abbrev pub relation : RelationText → List Token
@@ -148,7 +152,7 @@ select s = name s.name ∷ sign sign_of.Assign ∷ keyword word.Select ∷ name 
 
 -- N = concat S S {S}
 abbrev pub concat : ConcatText → List Token
-concat c = name c.name ∷ sign sign_of.Assign ∷ keyword word.Concat ∷ map name c.sources
+concat c = name c.name ∷ sign sign_of.Assign ∷ keyword word.Concat ∷ flat_map one_name c.sources
 
 -- N = join S S on C {, C} [at most K] [via P | clear at P]
 abbrev pub join : JoinText → List Token

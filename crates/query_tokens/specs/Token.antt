@@ -1,11 +1,11 @@
 -- The tokens of a line, and which of them are real.
-use Rattle.std.specs.Prelude.{◌≡◌, ℕ, ◌<◌, ◌≤◌, ◌^◌, Bool, not, ◌&&◌, ◌||◌, ◌==◌, List, [], ◌∷◌, length, IsTrue}
+use Rattle.std.specs.Prelude.{◌≡◌, ℕ, ◌<◌, ◌≤◌, ◌^◌, Bool, not, ◌&&◌, ◌||◌, ◌==◌, List, [], ◌∷◌, length, Option, Some, None, IsTrue}
 use Rattle.std.specs.List.{list_all}
 use Rattle.std.specs.Char.{is_ascii_alphabetic, is_ascii_digit}
 use Rattle.std.specs.Int.{is_in_range}
 use Rattle.query_tokens.specs.declared.keyword.Keyword.{Keyword}
 use Rattle.query_tokens.specs.declared.sign.Sign.{Sign}
-use Rattle.query_tokens.specs.Words.{word_of}
+use Rattle.query_tokens.specs.Words.{word_of, same_keyword, same_sign}
 
 -- a token; bad stands for bytes that are none, and is the last of its line
 pub data Token : Type 0 where
@@ -47,3 +47,33 @@ IsToken (quoted bytes) = IsTrue (list_all is_quotable bytes)
 IsToken (keyword k) = Unit {0}
 IsToken (sign s) = Unit {0}
 IsToken bad = ⊥
+
+-- a token that isn't bad
+abbrev pub IsKnown : Token → Type 0
+IsKnown bad = ⊥
+IsKnown _ = Unit {0}
+
+-- this keyword
+abbrev pub is_keyword : Keyword → Token → Bool
+is_keyword k (keyword j) = same_keyword j k
+is_keyword k _ = Bool.false
+
+-- this sign
+abbrev pub is_sign : Sign → Token → Bool
+is_sign s (sign u) = same_sign u s
+is_sign s _ = Bool.false
+
+-- a name's bytes
+abbrev pub name_of : Token → Option (List ℕ)
+name_of (name bytes) = Some bytes
+name_of _ = None
+
+-- a number's value
+abbrev pub number_of : Token → Option ℕ
+number_of (number n) = Some n
+number_of _ = None
+
+-- a quoted text's bytes
+abbrev pub quoted_of : Token → Option (List ℕ)
+quoted_of (quoted bytes) = Some bytes
+quoted_of _ = None

@@ -1,0 +1,9 @@
+pub mod ReaderLaw
+pub mod Joined
+pub mod Repeated
+pub mod Lawful
+pub mod PartyLaws
+pub mod TokenLaws
+pub mod PartLaws
+pub mod StatementLaws
+pub mod LineTheorem
