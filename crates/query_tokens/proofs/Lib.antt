@@ -1,1 +1,5 @@
 pub mod Tags
+pub mod Digits
+pub mod ScanSteps
+pub mod LineCuts
+pub mod RealTokens

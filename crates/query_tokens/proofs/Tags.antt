@@ -1,5 +1,5 @@
 -- Two keywords of one number are one keyword, and so are two signs; a name that is one letter is a name.
-use Rattle.std.proofs.Common.{◌≡◌, ℕ, Bool, true, false, eqb, List, [], ◌∷◌, refl, sym, ap, subst, lit≤}
+use Rattle.std.proofs.Common.{◌≡◌, true, [], ◌∷◌, refl, ap, lit≤}
 use denote.Enum.Bare.{same_true}
 use denote.Enum.Declared.{tag_of}
 use Rattle.query_tokens.specs.contracts.keyword.Keyword.{the_type}
@@ -9,7 +9,7 @@ use Rattle.query_tokens.specs.declared.keyword.Keyword.TheVariants as word
 use Rattle.query_tokens.specs.declared.sign.Sign.{Sign}
 use Rattle.query_tokens.specs.declared.sign.Sign.TheVariants as sign_of
 use Rattle.query_tokens.specs.Words.{word_of, keyword_number, sign_number, same_keyword, same_sign}
-use Rattle.query_tokens.specs.Token.{Token, name, number, quoted, keyword, sign, bad, IsName, is_keyword, is_sign}
+use Rattle.query_tokens.specs.Token.{Token, keyword, sign, IsName, is_keyword, is_sign}
 
 pub keyword_tag : (k : Keyword) → tag_of the_type k ≡ keyword_number k
 keyword_tag word.Relation = refl

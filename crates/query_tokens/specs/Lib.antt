@@ -1,2 +1,5 @@
 pub mod Words
 pub mod Token
+pub mod Scan
+pub mod Lines
+pub mod Lexemes

@@ -53,6 +53,10 @@ abbrev pub IsKnown : Token → Type 0
 IsKnown bad = ⊥
 IsKnown _ = Unit {0}
 
+abbrev pub is_bad : Token → Bool
+is_bad bad = Bool.true
+is_bad _ = Bool.false
+
 -- this keyword
 abbrev pub is_keyword : Keyword → Token → Bool
 is_keyword k (keyword j) = same_keyword j k

@@ -1,5 +1,5 @@
 ghost use Rattle.std.specs.Prelude.{◌≡◌};
-ghost use Rattle.query_tokens.specs.Words.{word_of};
+ghost use Rattle.query_tokens.specs.Words.{same_keyword, word_of};
 
 /// The words that are no names.
 #[derive(Clone, Copy, Debug, PartialEq, Eq)]
@@ -73,6 +73,13 @@ pub const KEYWORDS: [Keyword; 31] = [
 ];
 
 impl Keyword {
+    /// Whether they are the same keyword.
+    pub fn is(self, other: Keyword) -> bool
+        ensures { result ≡ same_keyword self other }
+    {
+        self == other
+    }
+
     /// The word as it is written, in lower case.
     pub fn word(self) -> &'static [u8]
         ensures { result.now ≡ word_of self }

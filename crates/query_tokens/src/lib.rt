@@ -2,7 +2,13 @@
 #![tactic(auto)]
 
 mod keyword;
+mod lines;
+mod scan;
 mod sign;
+mod token;
 
 pub use keyword::{KEYWORDS, Keyword};
-pub use sign::Sign;
+pub use lines::split_line;
+pub use scan::scan_line;
+pub use sign::{SIGNS, Sign};
+pub use token::{Lexeme, Placed};

@@ -1,5 +1,5 @@
 ghost use Rattle.std.specs.Prelude.{◌≡◌};
-ghost use Rattle.query_tokens.specs.Words.{sign_text};
+ghost use Rattle.query_tokens.specs.Words.{same_sign, sign_text};
 
 /// The signs of a query.
 #[derive(Clone, Copy, Debug, PartialEq, Eq)]
@@ -21,7 +21,33 @@ pub enum Sign {
     Bar,
 }
 
+/// Every sign, once; those of two bytes stand before those of one.
+pub const SIGNS: [Sign; 15] = [
+    Sign::Equal,
+    Sign::NotEqual,
+    Sign::LessEqual,
+    Sign::GreaterEqual,
+    Sign::LeftParen,
+    Sign::RightParen,
+    Sign::Comma,
+    Sign::Assign,
+    Sign::Less,
+    Sign::Greater,
+    Sign::Plus,
+    Sign::Minus,
+    Sign::Star,
+    Sign::Ampersand,
+    Sign::Bar,
+];
+
 impl Sign {
+    /// Whether they are the same sign.
+    pub fn is(self, other: Sign) -> bool
+        ensures { result ≡ same_sign self other }
+    {
+        self == other
+    }
+
     /// The sign as it is written.
     pub fn text(self) -> &'static [u8]
         ensures { result.now ≡ sign_text self }
