@@ -7,3 +7,6 @@ pub mod TokenLaws
 pub mod PartLaws
 pub mod StatementLaws
 pub mod LineTheorem
+pub mod Left
+pub mod Loops
+pub mod NamedLine

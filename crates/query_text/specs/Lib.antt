@@ -3,3 +3,7 @@ pub mod Spelling
 pub mod Grammar
 pub mod Reading
 pub mod Forms
+pub mod Answers
+pub mod Separators
+pub mod Text
+pub mod ReadText

@@ -4,10 +4,17 @@
 
 mod bytes;
 mod operand;
+mod lists;
+mod parser;
 mod parts;
 mod query;
+mod read;
+mod read_parts;
+mod read_statements;
 mod sequence;
 mod statement;
+mod stop;
+mod tokens;
 
 pub use bytes::Bytes;
 pub use operand::{Cmp, KindText, Op, OperandText};

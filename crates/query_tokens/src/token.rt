@@ -62,6 +62,13 @@ impl<'a> Placed<'a> {
         Placed { lexeme, column }
     }
 
+    /// What stands there.
+    pub fn lexeme(&self) -> Lexeme<'a>
+        ensures { token_of result ≡ self.now.0 }
+    {
+        self.lexeme
+    }
+
     /// The column of its first byte, from 1.
     pub fn column(&self) -> u32
         ensures { result ≡ self.now.1 }
