@@ -10,3 +10,6 @@ pub mod LineTheorem
 pub mod Left
 pub mod Loops
 pub mod NamedLine
+pub mod TextTheorem
+pub mod TextLoop
+pub mod WholeText

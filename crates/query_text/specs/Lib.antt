@@ -7,3 +7,4 @@ pub mod Answers
 pub mod Separators
 pub mod Text
 pub mod ReadText
+pub mod Laws

@@ -4,6 +4,7 @@
 
 mod bytes;
 mod operand;
+mod laws;
 mod lists;
 mod parser;
 mod parts;
@@ -17,9 +18,11 @@ mod stop;
 mod tokens;
 
 pub use bytes::Bytes;
+pub use laws::one_reading;
 pub use operand::{Cmp, KindText, Op, OperandText};
 pub use parts::{AggregateText, ColumnText, ItemText, TestText};
 pub use query::{Query, ReadFault};
+pub use read::read_query;
 pub use sequence::Sequence;
 pub use statement::{
     Body, ConcatText, DistinctText, FilterText, GroupText, JoinText, OutputText, RelationText,

@@ -1,15 +1,18 @@
-ghost use Rattle.std.specs.Prelude.{◌≡◌, ◌+◌, ◌-◌, ◌<◌, ◌≤◌, ◌^◌, length, drop};
+ghost use Rattle.std.specs.Prelude.{ℕ, List, IfOk, ◌≡◌, ◌+◌, ◌-◌, ◌<◌, ◌≤◌, ◌++◌, length, drop, OnOk};
+ghost use Rattle.std.specs.Option.{option_to_list};
 ghost use Rattle.query_tokens.specs.Lines.{lines_of};
-ghost use Rattle.query_text.specs.Text.{column_by};
-ghost use Rattle.query_text.specs.ReadText.{line_on, read_lines, GivesText};
+ghost use Rattle.query_text.specs.Text.{column_by, IsQuery, IsFaultAt};
+ghost use Rattle.query_text.specs.ReadText.{line_on, read_lines, read_text, GivesText};
+ghost use Rattle.query_text.specs.declared.statement.Statement.{Statement};
+ghost use Rattle.query_text.specs.declared.query.ReadFault.{ReadFault};
 
 use crate::parser::Parser;
-use crate::query::ReadFault;
+use crate::query::{Query, ReadFault};
 use crate::sequence::Sequence;
 use crate::statement::Statement;
 use crate::stop::Stop;
 use query_tokens::{Placed, scan_line, split_line};
-use std::alloc::Global;
+use std::alloc::{AllocError, Global};
 
 /// The most bytes of a text.
 const TEXT_LIMIT: usize = 65536;
@@ -59,4 +62,66 @@ fn read_line<'a>(
             column: column_of(line, tokens, parser.left()),
         }),
     }
+}
+
+// Adds a statement at the end, where there is one.
+fn add(statements: &mut Vec<Statement>, statement: Option<Statement>) -> Result<(), AllocError>
+    ensures { OnOk result (statements.new.items ≡ statements.old.items ++ option_to_list statement) }
+{
+    if let Some(statement) = statement {
+        statements.push(statement)?;
+    }
+    Ok(())
+}
+
+// The statements of a text's lines.
+fn read_lines(alloc: Global, text: &[u8]) -> Result<Sequence<Statement>, ReadFault>
+    requires { length text.now ≤ 65536 }
+    ensures { GivesText (λ s. s) result (read_lines 1 0 (lines_of text.now)) }
+{
+    let mut statements = Vec::new(alloc);
+    let mut tokens = Vec::new(alloc);
+    let mut rest = text;
+    let mut number: u32 = 1;
+    'lines: loop {
+        let (line, behind) = split_line(rest);
+        let statement = read_line(alloc, number, statements.len(), line, &mut tokens)?;
+        add(&mut statements, statement)?;
+        match behind {
+            Some(more) => rest = more,
+            None => return Ok(Sequence::from_vec(statements)),
+        }
+        number += 1;
+    }
+}
+
+// What the text gives.
+fn read(alloc: Global, text: &[u8]) -> Result<Query, ReadFault>
+    ensures exact { GivesText (λ q. q) result (read_text text.now) }
+{
+    if text.len() > TEXT_LIMIT {
+        return Err(ReadFault::Text { line: 0, column: 0 });
+    }
+    let statements = read_lines(alloc, text)?;
+    Ok(Query { statements })
+}
+
+/// The statements of a text, each with its line. A text that is no query gives the place where it stops
+/// being one: the first token such that the tokens of its line, up to and with it, begin no statement;
+/// the column behind a line that ends too early; the first token of the 65th statement; line 0 and column
+/// 0 for more than 65,536 bytes. Own grammar.
+pub fn read_query(alloc: Global, bytes: &[u8]) -> Result<Query, ReadFault>
+    // What is read is a query with these statements.
+    ensures found { IfOk result (λ q. IsQuery bytes.now q) }
+
+    // A text that is a query with these statements is read so, unless memory runs out.
+    ensures only { (q : List Statement) → IsQuery bytes.now q → GivesText (λ r. r) result (Ok q) }
+
+    // The text stops being a query at the place of the fault.
+    ensures fault { (line column : ℕ) → result ≡ Err (ReadFault.Text line column) → IsFaultAt bytes.now line column }
+
+    // Where a text stops being a query, that place is the answer, unless memory runs out.
+    ensures place { (line column : ℕ) → IsFaultAt bytes.now line column → GivesText (λ r. r) result (Err (line, column)) }
+{
+    read(alloc, bytes)
 }

@@ -9,6 +9,7 @@ pub fn split_line(text: &[u8]) -> (&[u8], Option<&[u8]>)
         (λ rest. lines_of text.now ≡ result.0.now ∷ lines_of rest.now) }
     ensures shorter { MatchOption result.1 (result.0.now ≡ text.now)
         (λ rest. length rest.now + length result.0.now < length text.now) }
+    ensures within { length result.0.now ≤ length text.now }
 {
     let len = bytes_to_line_feed(text);
     if len < text.len() {
