@@ -1,20 +1,20 @@
 -- Readers of tokens with their laws, put together.
-use Rattle.std.proofs.Common.{◌≡◌, ℕ, ◌≤◌, Bool, true, false, List, [], ◌∷◌, ◌++◌, length, Option, Some, None, Result, Ok, Err, refl, sym, ap, subst, ◌∙◌, ◌⊎◌, inl, inr, append_assoc, cond, arith}
+use Rattle.std.proofs.Common.{◌≡◌, Bool, true, List, [], ◌∷◌, ◌++◌, Option, Some, None, refl}
 use Rattle.std.specs.Prelude.{IfSome}
-use Rattle.std.specs.List.{AllByRecursion, flat_map}
+use Rattle.std.specs.List.{AllByRecursion}
 use Rattle.std.proofs.lemmas.Bool.{eq-eqb}
-use Rattle.query_tokens.specs.Token.{Token, name, number, quoted, keyword, sign, bad, IsToken, IsKnown, is_keyword, is_sign}
+use Rattle.query_tokens.specs.Token.{Token, keyword, sign, IsToken, IsKnown, is_keyword, is_sign}
 use Rattle.query_tokens.specs.Words.{keyword_number, sign_number}
 use Rattle.query_tokens.specs.declared.keyword.Keyword.{Keyword}
 use Rattle.query_tokens.specs.declared.sign.Sign.{Sign}
 use Rattle.query_tokens.proofs.Tags.{is_keyword_only, is_sign_only}
-use Rattle.query_text.specs.Reading.{Read, ◌>>=◌, starts, one, expect, after, nothing, mapped, pair, either, maybe, times, several, value_of, ended_by}
+use Rattle.query_text.specs.Reading.{starts, one, after, nothing, mapped, pair, either, maybe, several, value_of, ended_by}
 use Rattle.query_text.specs.Forms.{Reader, list_of, behind, if_behind}
-use Rattle.query_text.specs.Spelling.{led, separated, optional, if_any}
+use Rattle.query_text.specs.Spelling.{separated, optional, if_any}
 use Rattle.query_text.specs.Grammar.{IsFilled}
-use Rattle.query_text.proofs.ReaderLaw.{first, first_or, Refuses, Taken, Stopped, Sample, Reads, bind_ok, bind_err, ok_is, err_is, ok_no_err, freely, single, Stands, one_reads, nothing_reads, Changes, mapped_reads}
+use Rattle.query_text.proofs.ReaderLaw.{first_or, Refuses, Reads, freely, single, Stands, one_reads, nothing_reads, Changes, mapped_reads}
 use Rattle.query_text.proofs.Joined.{pair_reads, IsFixed, after_reads, spelled_by, fits_by, follows_by, either_reads}
-use Rattle.query_text.proofs.Repeated.{reads_as, maybe_follows, maybe_reads, chain, times_reads, many_reads, several_follows, several_reads, several_free}
+use Rattle.query_text.proofs.Repeated.{reads_as, maybe_follows, maybe_reads, several_follows, several_reads}
 
 -- a reader's law, with what can follow what it reads
 pub record Law {A : Type 0} (r : Reader A) (spell : A → List Token) (fits : A → Type 0) : Type 1 where
@@ -85,8 +85,7 @@ several_law {A} test lead fixed {r} {spell} {fits} a = record { follows = severa
 -- ---- ended by a fixed token
 
 module _ {A : Type 0} (s : Sign) (r : Reader A) (spell : A → List Token) (fits : A → Type 0) (follows : A → Option Token → Type 0) (law : Reads IsToken IsKnown r spell fits follows)
-  (free : (a : A) → fits a → follows a (Some (sign s))) where
-
+    (free : (a : A) → fits a → follows a (Some (sign s))) where
   abbrev ended_follow : A × Unit {0} → Option Token → Type 0
   ended_follow p next = follows p.0 (Some (sign s)) × Unit {0}
 
@@ -95,9 +94,9 @@ module _ {A : Type 0} (s : Sign) (r : Reader A) (spell : A → List Token) (fits
       let mark = after_reads IsToken IsKnown (is_sign s) (sign s) (sign_fixed s) nothing (λ (u : Unit {0}). []) any freely (nothing_reads IsToken IsKnown) in
       let both = pair_reads IsToken IsKnown r spell fits follows (after (is_sign s) nothing) (λ (u : Unit {0}). sign s ∷ []) any freely law mark in
       let changed = mapped_reads IsToken IsKnown (pair r (after (is_sign s) nothing)) (λ (p : A × Unit {0}). spell p.0 ++ sign s ∷ []) (λ p. fits p.0 × Unit {0}) ended_follow value_of (λ a. (a, tt)) fits both
-        (record { there = λ p fit. (refl, fit.0); here = λ a fit. (refl, (fit, tt)) }) in
+      (record { there = λ p fit. (refl, fit.0); here = λ a fit. (refl, (fit, tt)) }) in
       reads_as IsToken IsKnown (ended_by (is_sign s) r) (λ a. spell a ++ sign s ∷ []) fits (λ a. ended_follow (a, tt)) (λ a. spell a ++ sign s ∷ []) freely changed
-        (λ a fit. refl) (λ a next fit h. tt) (λ a next fit h. (free a fit, tt))
+      (λ a fit. refl) (λ a next fit h. tt) (λ a next fit h. (free a fit, tt))
 
 abbrev pub ended_law : {A : Type 0} (s : Sign) {r : Reader A} {spell : A → List Token} {fits : A → Type 0} (a : Law r spell fits) → ((x : A) → fits x → a.follows x (Some (sign s)))
     → Law (ended_by (is_sign s) r) (λ x. spell x ++ sign s ∷ []) fits
@@ -114,7 +113,6 @@ list_follows test follows [] next = Refuses test next
 list_follows test follows (x ∷ xs) next = follows (x ∷ xs) next
 
 module _ {A : Type 0} (k : Keyword) (r : Reader (List A)) (spell : List A → List Token) (fits : List A → Type 0) (law : Law r spell (λ xs. IsFilled xs × fits xs)) (none : fits []) where
-
   list_there : (o : Option (List A)) → IfSome o (λ xs. IsFilled xs × fits xs) → (maybe_list (list_of o) ≡ o) × fits (list_of o)
   unfolding maybe_list
   list_there None fit = (refl, none)
@@ -145,9 +143,9 @@ module _ {A : Type 0} (k : Keyword) (r : Reader (List A)) (spell : List A → Li
   list_reads =
       let chosen = (if_behind_law k law).reads in
       let changed = mapped_reads IsToken IsKnown (if_behind k r) (optional (λ xs. keyword k ∷ spell xs)) (λ o. IfSome o (λ xs. IsFilled xs × fits xs)) (maybe_follows (is_keyword k) law.follows) list_of maybe_list fits chosen
-        (record { there = list_there; here = list_here }) in
+      (record { there = list_there; here = list_here }) in
       reads_as IsToken IsKnown (mapped list_of (if_behind k r)) (λ xs. optional (λ ys. keyword k ∷ spell ys) (maybe_list xs)) fits (λ xs. maybe_follows (is_keyword k) law.follows (maybe_list xs))
-        (if_any (keyword k) spell) (list_follows (is_keyword k) law.follows) changed list_same list_to list_from
+      (if_any (keyword k) spell) (list_follows (is_keyword k) law.follows) changed list_same list_to list_from
 
 abbrev pub list_law : {A : Type 0} (k : Keyword) {r : Reader (List A)} {spell : List A → List Token} (fits : List A → Type 0) (a : Law r spell (λ xs. IsFilled xs × fits xs)) → fits []
     → Law (mapped list_of (if_behind k r)) (if_any (keyword k) spell) fits

@@ -1,14 +1,14 @@
 -- The reader of a line is the grammar of a line: it reads the statements, and it stops at the fault.
-use Rattle.std.proofs.Common.{◌≡◌, ℕ, List, [], ◌∷◌, ◌++◌, Option, Some, None, Result, Ok, Err, refl, sym, ap, subst, ◌∙◌, ◌⊎◌, inl, inr, append_assoc}
+use Rattle.std.proofs.Common.{◌≡◌, List, [], ◌∷◌, ◌++◌, Option, Some, Result, Ok, Err, refl, sym, ap, subst, ◌∙◌, ◌⊎◌, inl, inr, append_assoc}
 use Rattle.std.specs.List.{AllByRecursion}
 use Rattle.std.proofs.lemmas.List.{append-nil}
 use Rattle.query_tokens.specs.Token.{Token, IsToken, IsKnown}
 use Rattle.query_text.specs.declared.statement.Body.{Body}
-use Rattle.query_text.specs.Reading.{◌>>=◌, all_read, whole}
+use Rattle.query_text.specs.Reading.{◌>>=◌, all_read}
 use Rattle.query_text.specs.Forms.{body_at, statement_at}
 use Rattle.query_text.specs.Spelling.{spelling}
-use Rattle.query_text.specs.Grammar.{FitsForm, Fits, IsStatement, IsFront, IsFault}
-use Rattle.query_text.proofs.ReaderLaw.{first, Taken, Stopped, bind_ok, bind_err, ok_is, err_is, ok_no_err, AllByRecursion-append}
+use Rattle.query_text.specs.Grammar.{FitsForm, IsStatement, IsFront, IsFault}
+use Rattle.query_text.proofs.ReaderLaw.{first, bind_ok, bind_err, ok_is, err_is, ok_no_err, AllByRecursion-append}
 use Rattle.query_text.proofs.StatementLaws.{body_follows, body_reads, body_end}
 
 -- the tokens of a line: each is a real one, or bad
@@ -61,50 +61,50 @@ pub statement_fault : (ts rest : List Token) → AreLineTokens ts → statement_
 statement_fault ts rest h e =
     elim (bind_err (body_at ts) (λ y. all_read y.0 y.1) rest e) [
       | inl d ↦
-        let s = body_reads.stops ts rest d in
-        record {
-          before = s.good;
-          parts = s.parts;
-          front = record {
-            body = s.goal_value;
-            more = s.more;
-            fits = record {
-              form = s.fit;
-              real = subst (λ (l : List Token). AllByRecursion IsToken l) (sym s.spelled)
-                (AllByRecursion-append IsToken s.good s.more (real_front ts s.good rest s.more s.goal_value h s.parts s.fit s.spelled) s.real);
+          let s = body_reads.stops ts rest d in
+          record {
+            before = s.good;
+            parts = s.parts;
+            front = record {
+              body = s.goal_value;
+              more = s.more;
+              fits = record {
+                form = s.fit;
+                real = subst (λ (l : List Token). AllByRecursion IsToken l) (sym s.spelled)
+                    (AllByRecursion-append IsToken s.good s.more (real_front ts s.good rest s.more s.goal_value h s.parts s.fit s.spelled) s.real);
+              };
+              spelled = s.spelled;
             };
-            spelled = s.spelled;
-          };
-          no_front = λ t behind k f.
-            let p : spelling f.body ≡ s.good ++ t ∷ f.more = f.spelled ∙ append_assoc s.good (t ∷ []) f.more in
-            let read : body_at (s.good ++ t ∷ f.more) ≡ Ok (f.body, []) = ap body_at (sym p) ∙ again_whole f.body f.fits.form in
-            let stop = s.same t behind k f.more in
-            ok_no_err (f.body, []) (t ∷ f.more) (sym read ∙ stop);
-          not_whole = λ b k w. ok_no_err b rest (sym (statement_again ts b w) ∙ e);
-        }
+            no_front = λ t behind k f.
+                let p : spelling f.body ≡ s.good ++ t ∷ f.more = f.spelled ∙ append_assoc s.good (t ∷ []) f.more in
+                let read : body_at (s.good ++ t ∷ f.more) ≡ Ok (f.body, []) = ap body_at (sym p) ∙ again_whole f.body f.fits.form in
+                let stop = s.same t behind k f.more in
+                ok_no_err (f.body, []) (t ∷ f.more) (sym read ∙ stop);
+            not_whole = λ b k w. ok_no_err b rest (sym (statement_again ts b w) ∙ e);
+          }
       | inr a ↦
-        let left = all_read_err a.0.0 a.0.1 rest a.2 in
-        let t = body_reads.takes ts a.0 a.1 in
-        let parts : ts ≡ spelling a.0.0 ++ rest = t.parts ∙ ap (λ (l : List Token). spelling a.0.0 ++ l) left in
-        record {
-          before = spelling a.0.0;
-          parts = parts;
-          front = record {
-            body = a.0.0;
-            more = [];
-            fits = record { form = t.fit; real = real_front ts (spelling a.0.0) rest [] a.0.0 h parts t.fit (sym (append-nil (spelling a.0.0))) };
-            spelled = sym (append-nil (spelling a.0.0));
-          };
-          no_front = λ u behind k f.
-            let p : spelling f.body ≡ spelling a.0.0 ++ u ∷ f.more = f.spelled ∙ append_assoc (spelling a.0.0) (u ∷ []) f.more in
-            let read : body_at (spelling a.0.0 ++ u ∷ f.more) ≡ Ok (f.body, []) = ap body_at (sym p) ∙ again_whole f.body f.fits.form in
-            let next : body_follows a.0.0 (Some u) = subst (λ (o : Option Token). body_follows a.0.0 o) (ap first (left ∙ k)) t.follow in
-            let short = body_reads.again a.0.0 (u ∷ f.more) t.fit next in
-            let same : (a.0.0, u ∷ f.more) ≡ (f.body, []) = ok_is _ _ (sym short ∙ read) in
-            let rests : u ∷ f.more ≡ [] = ap (λ (x : Body × List Token). x.1) same in
-            absurd cc;
-          not_whole = λ b k w. ok_no_err b rest (sym (statement_again ts b w) ∙ e);
-        }
+          let left = all_read_err a.0.0 a.0.1 rest a.2 in
+          let t = body_reads.takes ts a.0 a.1 in
+          let parts : ts ≡ spelling a.0.0 ++ rest = t.parts ∙ ap (λ (l : List Token). spelling a.0.0 ++ l) left in
+          record {
+            before = spelling a.0.0;
+            parts = parts;
+            front = record {
+              body = a.0.0;
+              more = [];
+              fits = record { form = t.fit; real = real_front ts (spelling a.0.0) rest [] a.0.0 h parts t.fit (sym (append-nil (spelling a.0.0))) };
+              spelled = sym (append-nil (spelling a.0.0));
+            };
+            no_front = λ u behind k f.
+                let p : spelling f.body ≡ spelling a.0.0 ++ u ∷ f.more = f.spelled ∙ append_assoc (spelling a.0.0) (u ∷ []) f.more in
+                let read : body_at (spelling a.0.0 ++ u ∷ f.more) ≡ Ok (f.body, []) = ap body_at (sym p) ∙ again_whole f.body f.fits.form in
+                let next : body_follows a.0.0 (Some u) = subst (λ (o : Option Token). body_follows a.0.0 o) (ap first (left ∙ k)) t.follow in
+                let short = body_reads.again a.0.0 (u ∷ f.more) t.fit next in
+                let same : (a.0.0, u ∷ f.more) ≡ (f.body, []) = ok_is _ _ (sym short ∙ read) in
+                let rests : u ∷ f.more ≡ [] = ap (λ (x : Body × List Token). x.1) same in
+                absurd cc;
+            not_whole = λ b k w. ok_no_err b rest (sym (statement_again ts b w) ∙ e);
+          }
     ]
 
 -- ---- a line has one fault, and none where it is a statement

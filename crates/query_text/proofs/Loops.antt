@@ -1,12 +1,12 @@
 -- Reading again and again, as a loop does.
-use Rattle.std.proofs.Common.{◌≡◌, ℕ, zero, suc, ◌+◌, ◌-◌, ◌<◌, ◌≤◌, Bool, true, false, cond, List, [], ◌∷◌, ◌++◌, length, Option, Some, None, Result, Ok, Err, refl, sym, ap, ◌∙◌, append_assoc, arith}
+use Rattle.std.proofs.Common.{◌≡◌, ℕ, suc, ◌+◌, ◌-◌, ◌<◌, ◌≤◌, Bool, true, false, List, [], ◌∷◌, ◌++◌, length, Option, Some, None, Ok, Err, refl, sym, ap, ◌∙◌, append_assoc, arith}
 use Rattle.std.proofs.lemmas.List.{append-nil}
 use Rattle.query_tokens.specs.Token.{Token}
 use Rattle.query_text.specs.declared.stop.Stop.{Stop}
 use Rattle.query_text.specs.declared.stop.Stop.TheVariants as stops
-use Rattle.query_text.specs.Reading.{Read, ◌>>=◌, starts, first_value, rest_of, after, times, many, pair, mapped, cons_of, several}
+use Rattle.query_text.specs.Reading.{Read, ◌>>=◌, starts, first_value, rest_of, after, times, cons_of, several}
 use Rattle.query_text.specs.Answers.{Stops}
-use Rattle.query_text.specs.Forms.{party_above, rising_next, rising}
+use Rattle.query_text.specs.Forms.{party_above, rising}
 
 -- what was read before, and what is still read
 abbrev pub with_front : {A T : Type 0} → List A → Read T (List A) → Read T (List A)
@@ -17,7 +17,6 @@ regroup {A} {T} front a (Ok x) = ap (λ (l : List A). Ok (l, x.1)) (sym (append_
 regroup front a (Err d) = refl
 
 module _ {A T : Type 0} (test : T → Bool) (s : List T → Read T A) where
-
   -- one value more of at most n
   pub times_goes_on : (front : List A) (n i : ℕ) (ts : List T) (x : A × List T) (total : Read T (List A)) → i < n → starts test ts ≡ true → s ts ≡ Ok x
       → with_front front (times (n - i) test s ts) ≡ total → with_front (front ++ x.0 ∷ []) (times (n - (i + 1)) test s x.1) ≡ total

@@ -1,5 +1,5 @@
 -- Reading a line that begins with a name and =.
-use Rattle.std.proofs.Common.{◌≡◌, Bool, false, List, Result, Ok, Err, refl, ◌⊎◌, inl, inr}
+use Rattle.std.proofs.Common.{◌≡◌, Bool, false, List, Ok, Err, refl, ◌⊎◌, inr}
 use Rattle.query_text.specs.Reading.{Read, ◌>>=◌, starts, expect, after, mapped, pair, either}
 
 abbrev changed : {T A B : Type 0} → (A → B) → Read T A → Read T B
@@ -15,8 +15,10 @@ third_choice {T} {A} {B} {N} {C} {D} t u v r s n k f ts name rest behind h i e g
   where
     second : B ⊎ (N × C) → A ⊎ (B ⊎ (N × C))
     second x = inr x
+
     third : N × C → B ⊎ (N × C)
     third x = inr x
+
     go : (x : Read T C) → changed f (changed second (changed third (x >>= with_name name))) ≡ changed (λ c. f (inr (inr (name, c)))) x
     go (Ok x) = refl
     go (Err d) = refl

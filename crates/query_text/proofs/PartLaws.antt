@@ -1,8 +1,8 @@
 -- The laws of the parts of statements.
-use Rattle.std.proofs.Common.{◌≡◌, ℕ, Bool, true, false, List, [], ◌∷◌, ◌++◌, Option, Some, None, refl, sym, ap, subst, ◌⊎◌, inl, inr}
+use Rattle.std.proofs.Common.{◌≡◌, ℕ, true, false, List, [], ◌∷◌, ◌++◌, Option, Some, None, refl, ap, ◌⊎◌, inl, inr}
 use Rattle.std.specs.Prelude.{IfSome, is_some}
 use Rattle.std.specs.List.{AllByRecursion}
-use Rattle.query_tokens.specs.Token.{Token, name, number, keyword, sign, IsToken, IsKnown, is_keyword, is_sign}
+use Rattle.query_tokens.specs.Token.{Token, name, keyword, sign, IsToken, IsKnown, is_sign}
 use Rattle.query_tokens.specs.declared.keyword.Keyword.{Keyword}
 use Rattle.query_tokens.specs.declared.keyword.Keyword.TheVariants as word
 use Rattle.query_tokens.specs.declared.sign.Sign.{Sign}
@@ -17,13 +17,13 @@ use Rattle.query_text.specs.declared.parts.AggregateText.{AggregateText}
 use Rattle.query_text.specs.declared.parts.AggregateText.TheVariants as aggregates
 use Rattle.query_text.specs.Parties.{IsParty, AreParties}
 use Rattle.query_text.specs.Reading.{starts}
-use Rattle.query_text.specs.Forms.{Reader, is_operator, parties_behind, column_of, column_at, test_of, test_at, computed, assigned, item_of, value_at, assigned_at, item_at, Function, function_at, aggregate_by, aggregate_of, aggregate_at, with_commas, in_parens, names_at, most_at, at_most_at, parts_at_most_at, clear_at_at, place_of, place_at, keys_at}
-use Rattle.query_text.specs.Spelling.{optional, parties_after, kind_token, operator, operand, column, test, item, aggregate, listed, names, keys, at_most, parts_at_most, clear_at, via, separated}
+use Rattle.query_text.specs.Forms.{Reader, is_operator, parties_behind, column_of, column_at, test_of, test_at, computed, assigned, item_of, value_at, assigned_at, item_at, Function, function_at, aggregate_by, aggregate_of, aggregate_at, with_commas, in_parens, names_at, at_most_at, parts_at_most_at, clear_at_at, place_of, place_at, keys_at}
+use Rattle.query_text.specs.Spelling.{optional, parties_after, operator, operand, column, test, item, aggregate, listed, names, keys, at_most, parts_at_most, clear_at, via, separated}
 use Rattle.query_text.specs.Grammar.{IsFilled, IsNotBoth, IsMaybeParty}
-use Rattle.query_text.proofs.ReaderLaw.{first_or, Refuses, freely, single, Changes}
+use Rattle.query_text.proofs.ReaderLaw.{Refuses, Changes}
 use Rattle.query_text.proofs.Joined.{spelled_by, fits_by}
 use Rattle.query_text.proofs.Repeated.{several_free}
-use Rattle.query_text.proofs.Lawful.{Law, any, some_any, keyword_fixed, sign_fixed, nothing_law, pair_law, behind_law, behind_sign_law, maybe_law, if_behind_law, either_law, mapped_law, spelled_law, several_law, ended_law, list_law}
+use Rattle.query_text.proofs.Lawful.{Law, any, sign_fixed, nothing_law, pair_law, behind_law, behind_sign_law, maybe_law, if_behind_law, either_law, mapped_law, spelled_law, several_law, ended_law, list_law}
 use Rattle.query_text.proofs.PartyLaws.{party_law, parties_law, rising_sign, rising_end}
 use Rattle.query_text.proofs.TokenLaws.{operator_writes, name_law, number_law, kind_law, comparison_law, operator_law, operand_law}
 
@@ -42,7 +42,7 @@ parties_then_end k (p ∷ ps) = rising_end p ps
 
 abbrev pub column_law : Law column_at column (λ c. AreParties c.trusted)
 column_law = mapped_law column_of (λ c. (c.name, (c.kind, c.trusted))) (λ c. AreParties c.trusted) (pair_law name_law (pair_law kind_law (parties_behind_law word.Trust)))
-  (record { there = λ p fit. (refl, fit.1.1); here = λ c fit. (refl, (tt, (tt, fit))) })
+    (record { there = λ p fit. (refl, fit.1.1); here = λ c fit. (refl, (tt, (tt, fit))) })
 
 pub column_then : (s : Sign) (c : ColumnText) → AreParties c.trusted → column_law.follows c (Some (sign s))
 column_then s c fit = (tt, (tt, parties_then_sign word.Trust c.trusted s))
@@ -67,7 +67,7 @@ columns_law = in_parens_law column_law (column_then sign_of.Comma) (column_then 
 
 abbrev pub test_law : Law test_at test any
 test_law = mapped_law test_of (λ t. (t.left, (t.cmp, t.right))) any (pair_law operand_law (pair_law comparison_law operand_law))
-  (record { there = λ p fit. (refl, tt); here = λ t fit. (refl, (tt, (tt, tt))) })
+    (record { there = λ p fit. (refl, tt); here = λ t fit. (refl, (tt, (tt, tt))) })
 
 pub test_free : (t : TestText) (next : Option Token) → test_law.follows t next
 test_free t next = (tt, (tt, tt))

@@ -1,17 +1,16 @@
 -- The laws of parties: one, and one to three in rising order.
-use Rattle.std.proofs.Common.{◌≡◌, ℕ, ◌<◌, ◌≤◌, Bool, true, false, cond, ltb, leb, ◌&&◌, List, [], ◌∷◌, ◌++◌, map, Option, Some, None, Result, Ok, Err, refl, sym, ap, subst, ◌∙◌, ◌⊎◌, inl, inr, append_assoc, arith, lit≤, lit<}
+use Rattle.std.proofs.Common.{◌≡◌, ℕ, ◌<◌, ◌≤◌, Bool, true, false, cond, ltb, leb, ◌&&◌, List, [], ◌∷◌, ◌++◌, Option, Some, None, Ok, Err, refl, ap, subst, ◌∙◌, inl, inr, lit≤, lit<}
 use Rattle.std.specs.Prelude.{is_some}
 use Rattle.std.specs.List.{AllByRecursion}
 use Rattle.std.proofs.lemmas.Bool.{ltb-true, lt-ltb, leb-true, le-leb}
-use Rattle.query_tokens.specs.Token.{Token, name, number, quoted, keyword, sign, bad, IsToken, IsKnown}
+use Rattle.query_tokens.specs.Token.{Token, number, sign, IsToken, IsKnown}
 use Rattle.query_tokens.specs.declared.sign.Sign.{Sign}
-use Rattle.query_tokens.specs.declared.keyword.Keyword.{Keyword}
-use Rattle.query_text.specs.Reading.{Read, ◌>>=◌, one}
+use Rattle.query_text.specs.Reading.{Read, ◌>>=◌}
 use Rattle.query_text.specs.Parties.{IsParty, AreRisingAbove, AreParties}
-use Rattle.query_text.specs.Forms.{Reader, party_of, party_at, party_above, rising_next, rising, parties_at}
+use Rattle.query_text.specs.Forms.{party_of, party_at, party_above, rising_next, rising, parties_at}
 use Rattle.query_text.specs.Spelling.{parties}
 use Rattle.query_text.specs.Grammar.{IsFilled}
-use Rattle.query_text.proofs.ReaderLaw.{first, Refuses, Taken, Stopped, Reads, bind_ok, bind_err, ok_is, ok_no_err, chosen, freely, single, Stands, one_reads}
+use Rattle.query_text.proofs.ReaderLaw.{first, Refuses, Taken, Stopped, bind_ok, bind_err, ok_is, ok_no_err, single}
 use Rattle.query_text.proofs.Lawful.{Law, one_law}
 
 some_is : {A : Type 0} (a b : A) → Some a ≡ Some b → a ≡ b
@@ -54,7 +53,6 @@ party_law = one_law party_of number IsParty (record {
   known = λ p fit. tt;
 })
 
-
 above_is : (n : ℕ) (t : Token) (p : ℕ) → party_above n t ≡ Some p → (t ≡ number p) × (n < p) × (p ≤ 3)
 above_is n (number q) p e =
     let h = let_through (ltb n q && leb q 3) q p e in
@@ -95,13 +93,13 @@ rising_takes n (t ∷ ts) x e = go (party_above n t) refl e (λ p y h. rising_ta
         → Taken parties (AreRisingAbove n) (rising_follows n) (t ∷ ts) x
     go None h e ih =
         subst (λ (y : List ℕ × List Token). Taken parties (AreRisingAbove n) (rising_follows n) (t ∷ ts) y) (ok_is ([], t ∷ ts) x e)
-          (record { parts = refl; fit = tt; follow = ap is_some h })
+        (record { parts = refl; fit = tt; follow = ap is_some h })
     go (Some p) h e ih =
         let a = above_is n t p h in
         let b = bind_ok (rising p ts) (with_party p) x e in
         let q = ih p b.0 b.1 in
         subst (λ (y : List ℕ × List Token). Taken parties (AreRisingAbove n) (rising_follows n) (t ∷ ts) y) (ok_is (p ∷ b.0.0, b.0.1) x b.2)
-          (record { parts = ap (λ (u : Token). u ∷ ts) a.0 ∙ ap (λ (l : List Token). number p ∷ l) q.parts; fit = (a.1, a.2, q.fit); follow = q.follow })
+        (record { parts = ap (λ (u : Token). u ∷ ts) a.0 ∙ ap (λ (l : List Token). number p ∷ l) q.parts; fit = (a.1, a.2, q.fit); follow = q.follow })
 
 rising_goes : (n : ℕ) (ts rest : List Token) → rising n ts ≡ Err rest → ⊥
 rising_goes n [] rest e = ok_no_err _ _ e
@@ -136,7 +134,7 @@ parties_takes ts x e =
     let p = party_law.reads.takes ts a.0 a.1 in
     let q = rising_takes a.0.0 a.0.1 b.0 b.1 in
     subst (λ (y : List ℕ × List Token). Taken parties filled_parties (rising_follows 0) ts y) (ok_is (a.0.0 ∷ b.0.0, b.0.1) x b.2)
-      (record { parts = p.parts ∙ ap (λ (l : List Token). number a.0.0 ∷ l) q.parts; fit = (tt, (p.fit.0, p.fit.1, q.fit)); follow = q.follow })
+    (record { parts = p.parts ∙ ap (λ (l : List Token). number a.0.0 ∷ l) q.parts; fit = (tt, (p.fit.0, p.fit.1, q.fit)); follow = q.follow })
 
 pub parties_again : (ps : List ℕ) (rest : List Token) → filled_parties ps → rising_follows 0 ps (first rest) → parties_at (parties ps ++ rest) ≡ Ok (ps, rest)
 parties_again [] rest fit next = absurd fit.0
@@ -148,22 +146,22 @@ pub parties_stops : (ts rest : List Token) → parties_at ts ≡ Err rest → St
 parties_stops ts rest e =
     elim (bind_err (party_at ts) (λ p. rising p.0 p.1 >>= with_party p.0) rest e) [
       | inr a ↦
-        elim (bind_err (rising a.0.0 a.0.1) (with_party a.0.0) rest a.2) [
-          | inl d ↦ absurd (rising_goes a.0.0 a.0.1 rest d)
-          | inr b ↦ absurd (ok_no_err _ _ b.2)
-        ]
+          elim (bind_err (rising a.0.0 a.0.1) (with_party a.0.0) rest a.2) [
+            | inl d ↦ absurd (rising_goes a.0.0 a.0.1 rest d)
+            | inr b ↦ absurd (ok_no_err _ _ b.2)
+          ]
       | inl d ↦
-        let p = party_law.reads.stops ts rest d in
-        record {
-          good = p.good;
-          parts = p.parts;
-          goal_value = p.goal_value ∷ [];
-          more = p.more;
-          fit = (tt, (p.fit.0, p.fit.1, tt));
-          spelled = p.spelled;
-          real = p.real;
-          same = λ t behind h other. rw (p.same t behind h other) refl;
-        }
+          let p = party_law.reads.stops ts rest d in
+          record {
+            good = p.good;
+            parts = p.parts;
+            goal_value = p.goal_value ∷ [];
+            more = p.more;
+            fit = (tt, (p.fit.0, p.fit.1, tt));
+            spelled = p.spelled;
+            real = p.real;
+            same = λ t behind h other. rw (p.same t behind h other) refl;
+          }
     ]
 
 abbrev pub parties_law : Law parties_at parties filled_parties

@@ -1,8 +1,8 @@
 -- What holds of every reader: what it reads is spelled so, what is spelled so is read, and where it stops
 -- no spelling goes on. One law for each way of putting readers together.
-use Rattle.std.proofs.Common.{◌≡◌, ℕ, Bool, true, false, List, [], ◌∷◌, ◌++◌, length, Option, Some, None, Result, Ok, Err, refl, sym, ap, subst, ◌∙◌, ◌⊎◌, inl, inr, append_assoc, cond}
+use Rattle.std.proofs.Common.{◌≡◌, Bool, true, false, List, [], ◌∷◌, ◌++◌, Option, Some, None, Result, Ok, Err, refl, ap, subst, ◌⊎◌, inl, inr, cond}
 use Rattle.std.specs.List.{AllByRecursion}
-use Rattle.query_text.specs.Reading.{Read, ◌>>=◌, starts, first_value, rest_of, found, one, expect, after, nothing, mapped, pair, either, option_of, maybe}
+use Rattle.query_text.specs.Reading.{Read, ◌>>=◌, starts, found, one, nothing, mapped}
 
 -- the first element, where there is one
 abbrev pub first : {T : Type 0} → List T → Option T
@@ -141,7 +141,7 @@ one_takes {T} {A} V K value token fits s (t ∷ ts) x e = go (value t) refl e
     go (Some a) h e =
         let r = s.reads t a h in
         subst (λ (y : A × List T). Taken (single token) fits freely (t ∷ ts) y) (ok_is (a, ts) x e)
-          (record { parts = ap (λ (u : T). u ∷ ts) r.0; fit = r.1; follow = tt })
+        (record { parts = ap (λ (u : T). u ∷ ts) r.0; fit = r.1; follow = tt })
 
 one_stops : {T A : Type 0} (V K : T → Type 0) (value : T → Option A) (token : A → T) (fits : A → Type 0) → Stands V K value token fits
     → (ts rest : List T) → one value ts ≡ Err rest → Stopped V (one value) (single token) fits ts rest
@@ -198,18 +198,18 @@ mapped_stops : {T A B : Type 0} (V K : T → Type 0) (r : List T → Read T A) (
 mapped_stops {T} {A} {B} V K r spell fits follows f back fits' law c ts rest e =
     elim (bind_err (r ts) (λ x. Ok (f x.0, x.1)) rest e) [
       | inl d ↦
-        let s = law.stops ts rest d in
-        let there = c.there s.goal_value s.fit in
-        record {
-          good = s.good;
-          parts = s.parts;
-          goal_value = f s.goal_value;
-          more = s.more;
-          fit = there.1;
-          spelled = rw (there.0) s.spelled;
-          real = s.real;
-          same = λ t behind h other. rw (s.same t behind h other) refl;
-        }
+          let s = law.stops ts rest d in
+          let there = c.there s.goal_value s.fit in
+          record {
+            good = s.good;
+            parts = s.parts;
+            goal_value = f s.goal_value;
+            more = s.more;
+            fit = there.1;
+            spelled = rw (there.0) s.spelled;
+            real = s.real;
+            same = λ t behind h other. rw (s.same t behind h other) refl;
+          }
       | inr y ↦ absurd (ok_no_err _ _ y.2)
     ]
 
@@ -217,17 +217,17 @@ pub mapped_reads : {T A B : Type 0} (V K : T → Type 0) (r : List T → Read T 
     → Reads V K r spell fits follows → Changes f back fits fits' → Reads V K (mapped f r) (λ b. spell (back b)) fits' (λ b. follows (back b))
 mapped_reads {T} {A} {B} V K r spell fits follows f back fits' law c = record {
   takes = λ ts x e.
-    let y = bind_ok (r ts) (λ x. Ok (f x.0, x.1)) x e in
-    let t = law.takes ts y.0 y.1 in
-    let there = c.there y.0.0 t.fit in
-    subst (λ (z : B × List T). Taken (λ b. spell (back b)) fits' (λ b. follows (back b)) ts z) (ok_is (f y.0.0, y.0.1) x y.2)
+      let y = bind_ok (r ts) (λ x. Ok (f x.0, x.1)) x e in
+      let t = law.takes ts y.0 y.1 in
+      let there = c.there y.0.0 t.fit in
+      subst (λ (z : B × List T). Taken (λ b. spell (back b)) fits' (λ b. follows (back b)) ts z) (ok_is (f y.0.0, y.0.1) x y.2)
       (record { parts = rw (there.0) t.parts; fit = there.1; follow = rw (there.0) t.follow });
   again = λ b rest fit next.
-    let here = c.here b fit in
-    rw (law.again (back b) rest here.1 next, here.0) refl;
+      let here = c.here b fit in
+      rw (law.again (back b) rest here.1 next, here.0) refl;
   stops = mapped_stops V K r spell fits follows f back fits' law c;
   sample =
-    let there = c.there law.sample.value law.sample.fit in
-    record { value = f law.sample.value; fit = there.1; real = rw (there.0) law.sample.real };
+      let there = c.there law.sample.value law.sample.fit in
+      record { value = f law.sample.value; fit = there.1; real = rw (there.0) law.sample.real };
   known = λ b fit. law.known (back b) (c.here b fit).1;
 }

@@ -1,13 +1,13 @@
 -- The laws of readers that go on: what may be missing, a reader again and again, and lists with an element
 -- between.
-use Rattle.std.proofs.Common.{◌≡◌, ℕ, zero, suc, ◌+◌, ◌<◌, ◌≤◌, Bool, true, false, List, [], ◌∷◌, ◌++◌, length, Option, Some, None, Result, Ok, Err, refl, sym, ap, subst, ◌∙◌, ◌⊎◌, inl, inr, append_assoc, cond, arith, length-append}
+use Rattle.std.proofs.Common.{◌≡◌, ℕ, zero, suc, ◌+◌, ◌<◌, ◌≤◌, Bool, true, false, List, [], ◌∷◌, ◌++◌, length, Option, Some, None, Ok, Err, refl, sym, ap, subst, ◌∙◌, ◌⊎◌, inl, inr, append_assoc, cond, arith, length-append}
 use Rattle.std.proofs.lemmas.List.{append-nil}
 use Rattle.std.specs.Prelude.{IfSome}
 use Rattle.std.specs.List.{AllByRecursion, flat_map}
-use Rattle.query_text.specs.Reading.{Read, ◌>>=◌, starts, rest_of, expect, after, nothing, mapped, pair, either, option_of, maybe, times, many, cons_of, several}
+use Rattle.query_text.specs.Reading.{Read, ◌>>=◌, starts, after, nothing, pair, either, option_of, maybe, times, many, cons_of, several}
 use Rattle.query_text.specs.Spelling.{led, separated, optional}
 use Rattle.query_text.specs.Grammar.{IsFilled}
-use Rattle.query_text.proofs.ReaderLaw.{first, first_or, Refuses, Taken, Stopped, Sample, Reads, bind_ok, bind_err, ok_is, err_is, ok_no_err, chosen, first_of_append, first_stays, AllByRecursion-append, starts_by_first, refused, not_started, freely, nothing_reads, Changes, mapped_reads}
+use Rattle.query_text.proofs.ReaderLaw.{first, first_or, Refuses, Taken, Stopped, Reads, bind_ok, bind_err, ok_is, ok_no_err, first_of_append, first_stays, AllByRecursion-append, starts_by_first, refused, not_started, freely, nothing_reads, mapped_reads}
 use Rattle.query_text.proofs.Joined.{pair_reads, IsFixed, after_reads, spelled_by, fits_by, follows_by, either_reads}
 
 -- ---- the same law in other words
@@ -18,12 +18,12 @@ pub reads_as : {T A : Type 0} (V K : T → Type 0) (r : List T → Read T A) (sp
     → Reads V K r spell' fits follows'
 reads_as {T} {A} V K r spell fits follows spell' follows' law same there here = record {
   takes = λ ts x e.
-    let p = law.takes ts x e in
-    record { parts = p.parts ∙ ap (λ (l : List T). l ++ x.1) (same x.0 p.fit); fit = p.fit; follow = there x.0 (first x.1) p.fit p.follow };
+      let p = law.takes ts x e in
+      record { parts = p.parts ∙ ap (λ (l : List T). l ++ x.1) (same x.0 p.fit); fit = p.fit; follow = there x.0 (first x.1) p.fit p.follow };
   again = λ a rest fit next. ap (λ (l : List T). r (l ++ rest)) (sym (same a fit)) ∙ law.again a rest fit (here a (first rest) fit next);
   stops = λ ts rest e.
-    let p = law.stops ts rest e in
-    record { good = p.good; parts = p.parts; goal_value = p.goal_value; more = p.more; fit = p.fit; spelled = sym (same p.goal_value p.fit) ∙ p.spelled; real = p.real; same = p.same };
+      let p = law.stops ts rest e in
+      record { good = p.good; parts = p.parts; goal_value = p.goal_value; more = p.more; fit = p.fit; spelled = sym (same p.goal_value p.fit) ∙ p.spelled; real = p.real; same = p.same };
   sample = record { value = law.sample.value; fit = law.sample.fit; real = subst (λ (l : List T). AllByRecursion V l) (same law.sample.value law.sample.fit) law.sample.real };
   known = λ a fit. subst (λ (l : List T). AllByRecursion K l) (same a fit) (law.known a fit);
 }
@@ -39,8 +39,7 @@ maybe_follows test follows None next = Refuses test next
 maybe_follows test follows (Some a) next = follows a next
 
 module _ {T A : Type 0} (V K : T → Type 0) (test : T → Bool) (r : List T → Read T A) (spell : A → List T) (fits : A → Type 0) (follows : A → Option T → Type 0)
-  (law : Reads V K r spell fits follows) (begins : (a : A) (rest : List T) → fits a → starts test (spell a ++ rest) ≡ true) where
-
+    (law : Reads V K r spell fits follows) (begins : (a : A) (rest : List T) → fits a → starts test (spell a ++ rest) ≡ true) where
   abbrev no_more : Unit {0} → List T
   no_more u = []
 
@@ -86,8 +85,7 @@ chain spell follows [] next = Unit {0}
 chain spell follows (a ∷ xs) next = follows a (first_or (flat_map spell xs) next) × chain spell follows xs next
 
 module _ {T A : Type 0} (V K : T → Type 0) (test : T → Bool) (r : List T → Read T A) (spell : A → List T) (fits : A → Type 0) (follows : A → Option T → Type 0)
-  (law : Reads V K r spell fits follows) (begins : (a : A) (rest : List T) → fits a → starts test (spell a ++ rest) ≡ true) where
-
+    (law : Reads V K r spell fits follows) (begins : (a : A) (rest : List T) → fits a → starts test (spell a ++ rest) ≡ true) where
   abbrev few_fit : ℕ → List A → Type 0
   few_fit n xs = AllByRecursion fits xs × (length xs ≤ n)
 
@@ -97,7 +95,7 @@ module _ {T A : Type 0} (V K : T → Type 0) (test : T → Bool) (r : List T →
   times_takes : (n : ℕ) (ts : List T) (x : List A × List T) → times n test r ts ≡ Ok x → Taken (flat_map spell) (few_fit n) (few_follow n) ts x
   times_takes zero ts x e =
       subst (λ (z : List A × List T). Taken (flat_map spell) (few_fit 0) (few_follow 0) ts z) (ok_is ([], ts) x e)
-        (record { parts = refl; fit = (tt, omega arith); follow = (tt, λ h. absurd (omega arith)) })
+      (record { parts = refl; fit = (tt, omega arith); follow = (tt, λ h. absurd (omega arith)) })
   times_takes (suc n) ts x e = go (starts test ts) refl e (λ t a. times_takes n t a)
     where
       go : (b : Bool) → starts test ts ≡ b → cond b (r ts >>= λ y. times n test r y.1 >>= λ ys. Ok (y.0 ∷ ys.0, ys.1)) (Ok ([], ts)) ≡ Ok x
@@ -105,18 +103,18 @@ module _ {T A : Type 0} (V K : T → Type 0) (test : T → Bool) (r : List T →
           → Taken (flat_map spell) (few_fit (suc n)) (few_follow (suc n)) ts x
       go false h e ih =
           subst (λ (z : List A × List T). Taken (flat_map spell) (few_fit (suc n)) (few_follow (suc n)) ts z) (ok_is ([], ts) x e)
-            (record { parts = refl; fit = (tt, omega arith); follow = (tt, λ l. refused test ts h) })
+          (record { parts = refl; fit = (tt, omega arith); follow = (tt, λ l. refused test ts h) })
       go true h e ih =
           let a = bind_ok (r ts) (λ y. times n test r y.1 >>= λ ys. Ok (y.0 ∷ ys.0, ys.1)) x e in
           let b = bind_ok (times n test r a.0.1) (λ ys. Ok (a.0.0 ∷ ys.0, ys.1)) x a.2 in
           let p = law.takes ts a.0 a.1 in
           let q = ih a.0.1 b.0 b.1 in
           subst (λ (z : List A × List T). Taken (flat_map spell) (few_fit (suc n)) (few_follow (suc n)) ts z) (ok_is (a.0.0 ∷ b.0.0, b.0.1) x b.2)
-            (record {
-              parts = p.parts ∙ ap (λ (l : List T). spell a.0.0 ++ l) q.parts ∙ sym (append_assoc (spell a.0.0) (flat_map spell b.0.0) b.0.1);
-              fit = ((p.fit, q.fit.0), omega (arith, q.fit.1));
-              follow = ((subst (λ (o : Option T). follows a.0.0 o) (ap first q.parts ∙ first_of_append (flat_map spell b.0.0) b.0.1) p.follow, q.follow.0), λ l. q.follow.1 (omega (arith, l)));
-            })
+          (record {
+            parts = p.parts ∙ ap (λ (l : List T). spell a.0.0 ++ l) q.parts ∙ sym (append_assoc (spell a.0.0) (flat_map spell b.0.0) b.0.1);
+            fit = ((p.fit, q.fit.0), omega (arith, q.fit.1));
+            follow = ((subst (λ (o : Option T). follows a.0.0 o) (ap first q.parts ∙ first_of_append (flat_map spell b.0.0) b.0.1) p.follow, q.follow.0), λ l. q.follow.1 (omega (arith, l)));
+          })
 
   times_again : (n : ℕ) (xs : List A) (rest : List T) → few_fit n xs → few_follow n xs (first rest) → times n test r (flat_map spell xs ++ rest) ≡ Ok (xs, rest)
   times_again zero [] rest fit next = refl
@@ -213,10 +211,10 @@ module _ {T A : Type 0} (V K : T → Type 0) (test : T → Bool) (r : List T →
           elim (bind_err (r ts) (next_values n) rest e) [
             | inl d ↦ stops_now n ts rest h (law.stops ts rest d)
             | inr a ↦
-              elim (bind_err (times n test r a.0.1) (λ ys. Ok (a.0.0 ∷ ys.0, ys.1)) rest a.2) [
-                | inr b ↦ absurd (ok_no_err _ _ b.2)
-                | inl d ↦ stops_later n ts rest a.0.0 a.0.1 (law.takes ts a.0 a.1) (ih a.0.1 rest d)
-              ]
+                elim (bind_err (times n test r a.0.1) (λ ys. Ok (a.0.0 ∷ ys.0, ys.1)) rest a.2) [
+                  | inr b ↦ absurd (ok_no_err _ _ b.2)
+                  | inl d ↦ stops_later n ts rest a.0.0 a.0.1 (law.takes ts a.0 a.1) (ih a.0.1 rest d)
+                ]
           ]
 
   all_known : (xs : List A) → AllByRecursion fits xs → AllByRecursion K (flat_map spell xs)
@@ -228,8 +226,8 @@ module _ {T A : Type 0} (V K : T → Type 0) (test : T → Bool) (r : List T →
     takes = times_takes n;
     again = times_again n;
     stops = λ ts rest e.
-      let p = times_stops n ts rest e in
-      record { good = p.good; parts = p.parts; goal_value = p.goal_value; more = p.more; fit = p.fit; spelled = p.spelled; real = p.real; same = λ t behind h other. p.same t behind h other n p.below };
+        let p = times_stops n ts rest e in
+        record { good = p.good; parts = p.parts; goal_value = p.goal_value; more = p.more; fit = p.fit; spelled = p.spelled; real = p.real; same = λ t behind h other. p.same t behind h other n p.below };
     sample = record { value = []; fit = (tt, omega arith); real = tt };
     known = λ xs fit. all_known xs fit.0;
   }
@@ -255,13 +253,19 @@ module _ {T A : Type 0} (V K : T → Type 0) (test : T → Bool) (r : List T →
   many_reads = record {
     takes = many_takes;
     again = λ xs rest fit next.
-      times_again (length (flat_map spell xs ++ rest)) xs rest (fit, omega (arith, no_longer xs fit, length-append (flat_map spell xs) rest)) (next.0, λ l. next.1);
+        times_again (length (flat_map spell xs ++ rest)) xs rest (fit, omega (arith, no_longer xs fit, length-append (flat_map spell xs) rest)) (next.0, λ l. next.1);
     stops = λ ts rest e.
-      let p = times_stops (length ts) ts rest e in
-      record {
-        good = p.good; parts = p.parts; goal_value = p.goal_value; more = p.more; fit = p.fit.0; spelled = p.spelled; real = p.real;
-        same = λ t behind h other. p.same t behind h other (length (p.good ++ t ∷ other)) (omega (arith, p.within, length-append p.good (t ∷ other)));
-      };
+        let p = times_stops (length ts) ts rest e in
+        record {
+          good = p.good;
+          parts = p.parts;
+          goal_value = p.goal_value;
+          more = p.more;
+          fit = p.fit.0;
+          spelled = p.spelled;
+          real = p.real;
+          same = λ t behind h other. p.same t behind h other (length (p.good ++ t ∷ other)) (omega (arith, p.within, length-append p.good (t ∷ other)));
+        };
     sample = record { value = []; fit = tt; real = tt };
     known = all_known;
   }
@@ -273,8 +277,7 @@ several_follows test lead spell follows [] next = Unit {0}
 several_follows test lead spell follows (a ∷ xs) next = follows a (first_or (led lead spell xs) next) × chain (λ x. lead ∷ spell x) follows xs next × Refuses test next
 
 module _ {T A : Type 0} (V K : T → Type 0) (test : T → Bool) (lead : T) (fixed : IsFixed V K test lead)
-  (r : List T → Read T A) (spell : A → List T) (fits : A → Type 0) (follows : A → Option T → Type 0) (law : Reads V K r spell fits follows) where
-
+    (r : List T → Read T A) (spell : A → List T) (fits : A → Type 0) (follows : A → Option T → Type 0) (law : Reads V K r spell fits follows) where
   abbrev filled_fit : List A → Type 0
   filled_fit xs = IsFilled xs × AllByRecursion fits xs
 

@@ -1,6 +1,6 @@
 -- The laws of statements.
-use Rattle.std.proofs.Common.{◌≡◌, ℕ, suc, ◌≤◌, ◌<◌, Bool, true, false, List, [], ◌∷◌, ◌++◌, length, Option, Some, None, refl, sym, ap, subst, ◌⊎◌, inl, inr, arith}
-use Rattle.std.specs.Prelude.{IfSome, is_some}
+use Rattle.std.proofs.Common.{◌≡◌, ℕ, ◌≤◌, ◌<◌, Bool, true, false, List, [], ◌∷◌, ◌++◌, length, Option, Some, None, refl, inl, inr, arith}
+use Rattle.std.specs.Prelude.{IfSome}
 use Rattle.std.specs.List.{AllByRecursion, flat_map}
 use Rattle.query_tokens.specs.Token.{Token, name, number, keyword, sign, IsToken, IsKnown, is_keyword, is_sign}
 use Rattle.query_tokens.specs.declared.keyword.Keyword.TheVariants as word
@@ -12,11 +12,11 @@ use Rattle.query_text.specs.declared.parts.AggregateText.{AggregateText}
 use Rattle.query_text.specs.declared.statement.Body.{Body}
 use Rattle.query_text.specs.declared.statement.Body.TheVariants as bodies
 use Rattle.query_text.specs.Parties.{IsParty, AreParties}
-use Rattle.query_text.specs.Reading.{pair, times, several}
-use Rattle.query_text.specs.Forms.{Reader, name_at, is_name, test_at, sources_of, relation_at, filter_at, select_at, concat_at, join_at, group_at, distinct_at, output_at, Node, node_at, node_of, Line, line_at, body_of, body_at}
+use Rattle.query_text.specs.Reading.{times, several}
+use Rattle.query_text.specs.Forms.{name_at, is_name, test_at, sources_of, relation_at, filter_at, select_at, concat_at, join_at, group_at, distinct_at, output_at, Node, node_at, node_of, Line, line_at, body_of, body_at}
 use Rattle.query_text.specs.Spelling.{optional, separated, one_name, parties, parties_after, column, test, item, aggregate, listed, names, keys, at_most, parts_at_most, clear_at, via, spelling}
 use Rattle.query_text.specs.Grammar.{IsFilled, IsMaybeParty, FitsForm}
-use Rattle.query_text.proofs.ReaderLaw.{first_or, Refuses, freely, single, Changes, Reads}
+use Rattle.query_text.proofs.ReaderLaw.{first_or, Refuses, freely, Reads}
 use Rattle.query_text.proofs.Joined.{spelled_by, fits_by}
 use Rattle.query_text.proofs.Repeated.{chain, times_reads, several_free}
 use Rattle.query_text.proofs.Lawful.{Law, any, some_any, keyword_fixed, pair_law, behind_law, behind_sign_law, either_law, mapped_law, spelled_law, several_law}
@@ -76,7 +76,7 @@ tests_law = several_law (is_keyword word.And) (keyword word.And) (keyword_fixed 
 tests_free : (next : Option Token) (ts : List TestText) → Refuses (is_keyword word.And) next → tests_law.follows ts next
 tests_free next ts h =
     several_free IsToken IsKnown (is_keyword word.And) (keyword word.And) (keyword_fixed word.And) test_at test any test_law.follows test_law.reads next ts
-      (λ t fit. test_free t (Some (keyword word.And))) (λ t fit. test_free t next) h (all_any ts)
+    (λ t fit. test_free t (Some (keyword word.And))) (λ t fit. test_free t next) h (all_any ts)
 
 abbrev Filter : Type 0
 Filter = List ℕ × (List TestText × (Option ℕ × Option ℕ))
@@ -91,9 +91,13 @@ abbrev filter_law : Law filter_at filter_spelled filter_fits
 filter_law = pair_law name_law (behind_law word.Where (pair_law tests_law (pair_law at_most_law clear_at_law)))
 
 filter_end : (p : Filter) → filter_law.follows p None
-filter_end p =
-    (tt, (tests_free (first_or (optional at_most p.1.1.0 ++ optional clear_at p.1.1.1) None) p.1.0 (most_first (is_keyword word.And) p.1.1.0 (optional clear_at p.1.1.1) refl (clear_first (is_keyword word.And) p.1.1.1 refl)),
-      (most_then p.1.1.0 (first_or (optional clear_at p.1.1.1) None) (clear_first (is_keyword word.At) p.1.1.1 refl), clear_at_end p.1.1.1)))
+filter_end p = (
+  tt,
+  (
+    tests_free (first_or (optional at_most p.1.1.0 ++ optional clear_at p.1.1.1) None) p.1.0 (most_first (is_keyword word.And) p.1.1.0 (optional clear_at p.1.1.1) refl (clear_first (is_keyword word.And) p.1.1.1 refl)),
+    (most_then p.1.1.0 (first_or (optional clear_at p.1.1.1) None) (clear_first (is_keyword word.At) p.1.1.1 refl), clear_at_end p.1.1.1),
+  ),
+)
 
 -- ---- selects
 
@@ -176,9 +180,16 @@ join_law = pair_law name_law (pair_law name_law (behind_law word.On (pair_law na
 
 join_end : (p : Join) → join_law.follows p None
 join_end p =
-    let places = optional via p.1.1.1.1.0 ++ optional clear_at p.1.1.1.1.1 in
-    (tt, (tt, (names_free (first_or (optional at_most p.1.1.1.0 ++ places) None) p.1.1.0 (most_first (is_sign sign_of.Comma) p.1.1.1.0 places refl (place_first (is_sign sign_of.Comma) p.1.1.1.1.0 p.1.1.1.1.1 refl refl)),
-      (most_then p.1.1.1.0 (first_or places None) (place_first (is_keyword word.At) p.1.1.1.1.0 p.1.1.1.1.1 refl refl), place_end p.1.1.1.1))))
+    let places = optional via p.1.1.1.1.0 ++ optional clear_at p.1.1.1.1.1 in (
+      tt,
+      (
+        tt,
+        (
+          names_free (first_or (optional at_most p.1.1.1.0 ++ places) None) p.1.1.0 (most_first (is_sign sign_of.Comma) p.1.1.1.0 places refl (place_first (is_sign sign_of.Comma) p.1.1.1.1.0 p.1.1.1.1.1 refl refl)),
+          (most_then p.1.1.1.0 (first_or places None) (place_first (is_keyword word.At) p.1.1.1.1.0 p.1.1.1.1.1 refl refl), place_end p.1.1.1.1),
+        ),
+      ),
+    )
 
 -- ---- groups
 
@@ -197,10 +208,19 @@ group_law = pair_law name_law (pair_law keys_law (pair_law aggregates_law (pair_
 group_end : (p : Group) → group_law.follows p None
 group_end p =
     let places = optional via p.1.1.1.1.1.0 ++ optional clear_at p.1.1.1.1.1.1 in
-    let bounds = optional at_most p.1.1.1.1.0 ++ places in
-    (tt, (keys_then p.1.0, (tt,
-      (parts_then p.1.1.1.0 (first_or bounds None) (most_first (is_keyword word.Parts) p.1.1.1.1.0 places refl (place_first (is_keyword word.Parts) p.1.1.1.1.1.0 p.1.1.1.1.1.1 refl refl)),
-        (most_then p.1.1.1.1.0 (first_or places None) (place_first (is_keyword word.At) p.1.1.1.1.1.0 p.1.1.1.1.1.1 refl refl), place_end p.1.1.1.1.1)))))
+    let bounds = optional at_most p.1.1.1.1.0 ++ places in (
+      tt,
+      (
+        keys_then p.1.0,
+        (
+          tt,
+          (
+            parts_then p.1.1.1.0 (first_or bounds None) (most_first (is_keyword word.Parts) p.1.1.1.1.0 places refl (place_first (is_keyword word.Parts) p.1.1.1.1.1.0 p.1.1.1.1.1.1 refl refl)),
+            (most_then p.1.1.1.1.0 (first_or places None) (place_first (is_keyword word.At) p.1.1.1.1.1.0 p.1.1.1.1.1.1 refl refl), place_end p.1.1.1.1.1),
+          ),
+        ),
+      ),
+    )
 
 -- ---- distincts and outputs
 
@@ -229,7 +249,7 @@ node_fits n = fits_by filter_fits (fits_by select_fits (fits_by concat_fits (fit
 
 abbrev node_spelled : Node → List Token
 node_spelled n = spelled_by (λ p. keyword word.Filter ∷ filter_spelled p) (spelled_by (λ p. keyword word.Select ∷ select_spelled p) (spelled_by (λ p. keyword word.Concat ∷ flat_map one_name p)
-  (spelled_by (λ p. keyword word.Join ∷ join_spelled p) (spelled_by (λ p. keyword word.Group ∷ group_spelled p) (λ p. keyword word.Distinct ∷ distinct_spelled p))))) n
+    (spelled_by (λ p. keyword word.Join ∷ join_spelled p) (spelled_by (λ p. keyword word.Group ∷ group_spelled p) (λ p. keyword word.Distinct ∷ distinct_spelled p))))) n
 
 abbrev node_law : Law node_at node_spelled node_fits
 node_law = either_law word.Filter filter_law (either_law word.Select select_law (either_law word.Concat concat_law (either_law word.Join join_law (either_law word.Group group_law (behind_law word.Distinct distinct_law)))))

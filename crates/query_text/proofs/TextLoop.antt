@@ -1,5 +1,5 @@
 -- Reading lines one after the other, as the loop does.
-use Rattle.std.proofs.Common.{◌≡◌, ℕ, suc, ◌+◌, ◌<◌, List, [], ◌∷◌, ◌++◌, length, Option, Some, None, Result, Ok, Err, refl, sym, ap, subst, ◌∙◌, append_assoc, arith, length-append}
+use Rattle.std.proofs.Common.{◌≡◌, ℕ, ◌+◌, ◌<◌, List, [], ◌∷◌, ◌++◌, length, Option, Some, None, Result, Ok, Err, refl, sym, ap, subst, ◌∙◌, append_assoc, arith, length-append}
 use Rattle.std.proofs.lemmas.List.{append-nil}
 use Rattle.std.specs.Prelude.{MatchOption}
 use Rattle.std.specs.Borrow.{Bor}
@@ -9,7 +9,7 @@ use Rattle.query_text.specs.declared.statement.Statement.{Statement}
 use Rattle.query_text.specs.declared.query.ReadFault.{ReadFault}
 use Rattle.query_text.specs.declared.query.ReadFault.TheVariants as faults
 use Rattle.query_text.specs.Reading.{◌>>=◌}
-use Rattle.query_text.specs.ReadText.{Spot, line_on, and_behind, read_lines, GivesFault}
+use Rattle.query_text.specs.ReadText.{Spot, line_on, read_lines, GivesFault}
 
 -- what was read before, and what is still read
 abbrev pub before : List Statement → Result (List Statement) Spot → Result (List Statement) Spot

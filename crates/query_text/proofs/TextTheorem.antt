@@ -1,12 +1,11 @@
 -- The reader of a text is the grammar of a text: its statements, no others, and the place of the fault.
-use Rattle.std.proofs.Common.{◌≡◌, ℕ, zero, suc, ◌+◌, ◌-◌, ◌<◌, ◌≤◌, Bool, true, false, cond, leb, List, [], ◌∷◌, ◌++◌, length, drop, map, Option, Some, None, Result, Ok, Err, refl, sym, ap, subst, ◌∙◌, ◌⊎◌, inl, inr, arith}
+use Rattle.std.proofs.Common.{◌≡◌, ℕ, suc, ◌+◌, ◌<◌, ◌≤◌, Bool, true, false, cond, leb, List, [], ◌∷◌, ◌++◌, length, Option, Some, None, Result, Ok, Err, refl, sym, ap, subst, ◌∙◌, ◌⊎◌, inl, inr, arith}
 use Rattle.std.proofs.lemmas.Bool.{leb-true, leb-false, le-leb, lt-leb}
 use Rattle.query_tokens.specs.Token.{Token}
 use Rattle.query_tokens.specs.Scan.{tokens_of}
 use Rattle.query_tokens.proofs.RealTokens.{tokens_of-real}
 use Rattle.query_text.specs.declared.statement.Body.{Body}
 use Rattle.query_text.specs.declared.statement.Statement.{Statement}
-use Rattle.query_text.specs.Reading.{◌>>=◌}
 use Rattle.query_text.specs.Forms.{statement_at}
 use Rattle.query_text.specs.declared.statement.Body.TheVariants as bodies
 use Rattle.query_text.specs.Spelling.{spelling}
@@ -35,6 +34,7 @@ line_found n count line o e = go (tokens_of line) refl e
         let found : IsStatement (tokens_of line) b = statement_found (tokens_of line) b (tokens_of-real line) (ap statement_at k ∙ h) in
         let is : Some (on_line n b) ≡ o = ok_is _ _ e in
         subst (λ (p : Option Statement). LineGives n count line p) is (lt, b, refl, found)
+
     go : (ts : List Token) → tokens_of line ≡ ts → tokens_on n count line ts ≡ Ok o → LineGives n count line o
     go [] k e = let is : None ≡ o = ok_is _ _ e in subst (λ (p : Option Statement). LineGives n count line p) is k
     go (t ∷ ts) k e = limit (leb 64 count) refl e
@@ -58,12 +58,14 @@ line_fault n count line spot le e = go (tokens_of line) refl e
   where
     Faulty : Spot → Type 0
     Faulty s = (s.0 ≡ n) × IsFaultOfLine count line s.1
+
     body : (t : Token) (ts : List Token) → tokens_of line ≡ t ∷ ts → count < 64 → (r : Result Body (List Token)) → statement_at (t ∷ ts) ≡ r → body_on n line r ≡ Err spot → Faulty spot
     body t ts k lt (Ok b) h e = absurd (ok_no_err _ _ e)
     body t ts k lt (Err rest) h e =
         let fault : IsFault (tokens_of line) rest = statement_fault (tokens_of line) rest (tokens_of-real line) (ap statement_at k ∙ h) in
         let is : (n, column_of line rest) ≡ spot = err_is _ _ e in
         subst Faulty is (refl, ((λ none. let f = sym none ∙ k in cc), inr (lt, rest, fault, refl)))
+
     go : (ts : List Token) → tokens_of line ≡ ts → tokens_on n count line ts ≡ Err spot → Faulty spot
     go [] k e = absurd (ok_no_err _ _ e)
     go (t ∷ ts) k e = limit (leb 64 count) refl e

@@ -1,6 +1,6 @@
 -- The laws of single tokens: names, numbers, kinds, comparisons, operators and operands.
-use Rattle.std.proofs.Common.{◌≡◌, ℕ, List, [], ◌∷◌, Option, Some, None, refl, sym, ap, lit<}
-use Rattle.query_tokens.specs.Token.{Token, name, number, quoted, keyword, sign, bad, IsToken, IsKnown, name_of, number_of}
+use Rattle.std.proofs.Common.{◌≡◌, ℕ, List, [], ◌∷◌, Some, refl, ap, lit<}
+use Rattle.query_tokens.specs.Token.{Token, name, number, quoted, keyword, sign, IsToken, IsKnown, name_of, number_of}
 use Rattle.query_tokens.specs.declared.keyword.Keyword.TheVariants as word
 use Rattle.query_tokens.specs.declared.sign.Sign.TheVariants as sign_of
 use Rattle.query_tokens.proofs.Tags.{IsName-letter}
@@ -13,7 +13,7 @@ use Rattle.query_text.specs.declared.operand.Op.TheVariants as operators
 use Rattle.query_text.specs.declared.operand.OperandText.{OperandText}
 use Rattle.query_text.specs.declared.operand.OperandText.TheVariants as operands
 use Rattle.query_text.specs.Forms.{kind_of, comparison_of, operator_of, operand_of, name_at, number_at, kind_at, comparison_at, operator_at, operand_at}
-use Rattle.query_text.specs.Spelling.{one_name, kind_token, comparison, operator, operand}
+use Rattle.query_text.specs.Spelling.{kind_token, comparison, operator, operand}
 use Rattle.query_text.proofs.ReaderLaw.{single, Stands}
 use Rattle.query_text.proofs.Lawful.{Law, any, one_law}
 

@@ -1,12 +1,11 @@
 -- A text is read exactly where it is a query, and its fault is the one place.
-use Rattle.std.proofs.Common.{◌≡◌, ℕ, ◌<◌, ◌≤◌, Bool, true, false, cond, ltb, List, length, Result, Ok, Err, refl, sym, ap, subst, ◌∙◌, ◌⊎◌, inl, inr, arith}
+use Rattle.std.proofs.Common.{◌≡◌, ℕ, Bool, true, false, cond, ltb, List, length, Result, Ok, Err, refl, sym, ap, subst, ◌∙◌, ◌⊎◌, inl, inr, arith}
 use Rattle.std.specs.Prelude.{IfOk}
 use Rattle.std.proofs.lemmas.Bool.{ltb-true, ltb-false, lt-ltb, le-ltb}
 use Rattle.query_tokens.specs.Lines.{lines_of}
 use Rattle.query_text.specs.declared.statement.Statement.{Statement}
 use Rattle.query_text.specs.declared.query.ReadFault.{ReadFault}
 use Rattle.query_text.specs.declared.query.ReadFault.TheVariants as faults
-use Rattle.query_text.specs.Grammar.{AreStatements}
 use Rattle.query_text.specs.Text.{IsQuery, IsFaultAt}
 use Rattle.query_text.specs.ReadText.{Spot, read_lines, read_text, GivesText}
 use Rattle.query_text.proofs.ReaderLaw.{ok_is, err_is, ok_no_err}

@@ -1,5 +1,5 @@
 -- How each form of statement is read.
-use Rattle.std.specs.Prelude.{ℕ, nat_lt, nat_le, Bool, false, ◌&&◌, List, [], ◌∷◌, ◌++◌, Option, Some, None, Result, Ok, Err, is_some, unwrap_or, if◌then◌else◌, ◌⊎◌}
+use Rattle.std.specs.Prelude.{ℕ, nat_lt, nat_le, Bool, ◌&&◌, List, [], ◌∷◌, Option, Some, None, Result, Ok, is_some, unwrap_or, if◌then◌else◌, ◌⊎◌}
 use Rattle.std.proofs.Common.{inl, inr}
 use Rattle.query_tokens.specs.Token.{Token, name, number, quoted, keyword, sign, is_keyword, is_sign, name_of, number_of}
 use Rattle.query_tokens.specs.declared.keyword.Keyword.{Keyword}
@@ -21,7 +21,7 @@ use Rattle.query_text.specs.declared.parts.AggregateText.{AggregateText}
 use Rattle.query_text.specs.declared.parts.AggregateText.TheVariants as aggregates
 use Rattle.query_text.specs.declared.statement.Body.{Body}
 use Rattle.query_text.specs.declared.statement.Body.TheVariants as bodies
-use Rattle.query_text.specs.Reading.{Read, ◌>>=◌, starts, one, after, mapped, nothing, pair, either, maybe, times, several, ended_by, whole}
+use Rattle.query_text.specs.Reading.{Read, ◌>>=◌, one, after, mapped, nothing, pair, either, maybe, times, several, ended_by, whole}
 
 -- ---- single tokens
 
@@ -176,7 +176,7 @@ Function = List ℕ ⊎ (Unit {0} ⊎ (List ℕ ⊎ List ℕ))
 
 abbrev pub function_at : Reader Function
 function_at = either (is_keyword word.Sum) (behind word.Sum name_at) (either (is_keyword word.Count) (behind word.Count nothing)
-  (either (is_keyword word.Least) (behind word.Least name_at) (behind word.Greatest name_at)))
+    (either (is_keyword word.Least) (behind word.Least name_at) (behind word.Greatest name_at)))
 
 abbrev pub aggregate_by : List ℕ → Function → AggregateText
 aggregate_by c (inl x) = aggregates.Sum c x
@@ -294,13 +294,13 @@ output_of p = bodies.Output (record { node = p.0; recipients = p.1 })
 -- what stands behind N =
 abbrev pub Node : Type 0
 Node = (List ℕ × (List TestText × (Option ℕ × Option ℕ))) ⊎ ((List ℕ × (List ItemText × Option ℕ)) ⊎ (List (List ℕ)
-  ⊎ ((List ℕ × (List ℕ × (List (List ℕ) × (Option ℕ × (Option ℕ × Option ℕ)))))
-  ⊎ ((List ℕ × (List (List ℕ) × (List AggregateText × (Option ℕ × (Option ℕ × (Option ℕ × Option ℕ)))))) ⊎ (List ℕ × (Option ℕ × Option ℕ))))))
+    ⊎ ((List ℕ × (List ℕ × (List (List ℕ) × (Option ℕ × (Option ℕ × Option ℕ)))))
+    ⊎ ((List ℕ × (List (List ℕ) × (List AggregateText × (Option ℕ × (Option ℕ × (Option ℕ × Option ℕ)))))) ⊎ (List ℕ × (Option ℕ × Option ℕ))))))
 
 abbrev pub node_at : Reader Node
 node_at = either (is_keyword word.Filter) (behind word.Filter filter_at) (either (is_keyword word.Select) (behind word.Select select_at)
-  (either (is_keyword word.Concat) (behind word.Concat concat_at) (either (is_keyword word.Join) (behind word.Join join_at)
-  (either (is_keyword word.Group) (behind word.Group group_at) (behind word.Distinct distinct_at)))))
+    (either (is_keyword word.Concat) (behind word.Concat concat_at) (either (is_keyword word.Join) (behind word.Join join_at)
+    (either (is_keyword word.Group) (behind word.Group group_at) (behind word.Distinct distinct_at)))))
 
 abbrev pub node_of : List ℕ → Node → Body
 node_of n (inl p) = filter_of n p
@@ -316,7 +316,7 @@ Line = (List ℕ × (ℕ × (ℕ × (List ColumnText × List ℕ)))) ⊎ ((List 
 
 abbrev pub line_at : Reader Line
 line_at = either (is_keyword word.Relation) (behind word.Relation relation_at) (either (is_keyword word.Output) (behind word.Output output_at)
-  (pair name_at (after (is_sign sign_of.Assign) node_at)))
+    (pair name_at (after (is_sign sign_of.Assign) node_at)))
 
 abbrev pub body_of : Line → Body
 body_of (inl p) = relation_of p

@@ -23,7 +23,7 @@ on_line n body = record { line = n; body = body }
 abbrev pub AreLines : ℕ → List (List ℕ) → List Statement → Type 0
 AreLines n [] statements = statements ≡ []
 AreLines n (line ∷ lines) statements = (tokens_of line ≡ [] × AreLines (n + 1) lines statements)
-  ⊎ ((body : Body) × (others : List Statement) × (statements ≡ on_line n body ∷ others) × IsStatement (tokens_of line) body × AreLines (n + 1) lines others)
+    ⊎ ((body : Body) × (others : List Statement) × (statements ≡ on_line n body ∷ others) × IsStatement (tokens_of line) body × AreLines (n + 1) lines others)
 
 -- the text is a query with these statements: at most 65536 bytes, and at most 64 statements
 pub record IsQuery (text : List ℕ) (statements : List Statement) : Type 0 where
@@ -34,7 +34,7 @@ pub record IsQuery (text : List ℕ) (statements : List Statement) : Type 0 wher
 -- a line behind this many statements is faulty at this column: it is the 65th, or no statement from there on
 abbrev pub IsFaultOfLine : ℕ → List ℕ → ℕ → Type 0
 IsFaultOfLine count line column = ((tokens_of line ≡ []) → ⊥)
-  × (((count ≡ 64) × (column ≡ column_of line (tokens_of line))) ⊎ ((count < 64) × (rest : List Token) × IsFault (tokens_of line) rest × (column ≡ column_of line rest)))
+    × (((count ≡ 64) × (column ≡ column_of line (tokens_of line))) ⊎ ((count < 64) × (rest : List Token) × IsFault (tokens_of line) rest × (column ≡ column_of line rest)))
 
 -- in lines of which the first has this number, behind this many statements, the first fault is here
 pub record IsFirstFault (n count : ℕ) (lines : List (List ℕ)) (line column : ℕ) : Type 0 where

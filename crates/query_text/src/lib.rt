@@ -3,9 +3,9 @@
 #![tactic(auto)]
 
 mod bytes;
-mod operand;
 mod laws;
 mod lists;
+mod operand;
 mod parser;
 mod parts;
 mod query;
@@ -15,6 +15,8 @@ mod read_statements;
 mod sequence;
 mod statement;
 mod stop;
+#[cfg(test)]
+mod tests;
 mod tokens;
 
 pub use bytes::Bytes;

@@ -1,7 +1,6 @@
-use Rattle.std.proofs.Common.{◌≡◌, ℕ, ◌+◌, List, [], ◌∷◌, length, Result, Ok, sym, ap, subst, ◌∙◌, arith}
+use Rattle.std.proofs.Common.{◌≡◌, ℕ, ◌+◌, List, [], length, Ok, sym, ap, subst, ◌∙◌, arith}
 use Rattle.std.proofs.lemmas.Result.{err_from_is_err_and}
 use Rattle.query_tokens.specs.Lines.{lines_of}
-use Rattle.query_text.specs.declared.statement.Statement.{Statement}
 use Rattle.query_text.specs.ReadText.{line_on, read_lines, GivesFault}
 use Rattle.query_text.proofs.TextLoop.{before, line_over, line_stop, last_line, no_lines, more_lines, fewer_bytes, some_lines}
 use Rattle.query_text.proofs.read.read_lines.Goals as goal

@@ -1,4 +1,4 @@
-use Rattle.std.proofs.Common.{◌≡◌, ◌-◌, ◌≤◌}
+use Rattle.std.proofs.Common.{◌≡◌, ◌-◌}
 use Rattle.query_text.specs.Reading.{after, times, several}
 use Rattle.query_text.specs.Separators.{separates}
 use Rattle.query_text.proofs.Loops.{with_front}
