@@ -1,5 +1,7 @@
-//! The query text: reads a text into its statements, or gives the one place where it stops being a
-//! query, and prints statements in their one spelling.
+//! The query text: reads any bytes into the statements of a query, or gives the one place where they
+//! stop being one. It stands on `query_tokens`. A `Query` is seen as its list of statements, which are
+//! plain data over lists. Main promise: `read_query` answers exactly by the grammar of `specs/Grammar`
+//! and `specs/Text`, in both directions.
 #![tactic(auto)]
 
 mod bytes;

@@ -3,3 +3,4 @@ pub mod Digits
 pub mod ScanSteps
 pub mod LineCuts
 pub mod RealTokens
+pub mod LongestFront

@@ -29,7 +29,7 @@ named_real bytes None e w = go (leb (length bytes) 32) refl
     go true h = λ u. record { word = w; short = leb-true (length bytes) 32 h; free = λ k same. let f = sym e ∙ ap keyword_of same ∙ keyword_of-word k in cc }
 
 -- a run of word bytes from the first of a word on is a word
-word_run : (b : ℕ) (bytes : List ℕ) → starts_word b ≡ true → is_word (take (prefix_len is_word_byte (b ∷ bytes)) (b ∷ bytes)) ≡ true
+pub word_run : (b : ℕ) (bytes : List ℕ) → starts_word b ≡ true → is_word (take (prefix_len is_word_byte (b ∷ bytes)) (b ∷ bytes)) ≡ true
 word_run b bytes h =
     let w : is_word_byte b ≡ true = ap (λ t. t || is_ascii_digit b) h in
     let k : 1 + prefix_len is_word_byte bytes ≡ suc (prefix_len is_word_byte bytes) = omega arith in

@@ -29,7 +29,7 @@ pub scan_start : (line : List ℕ) → scan_from line 0 ≡ scan 1 0 line
 unfolding scan_from
 scan_start line = refl
 
-found_passes : {X : Type 0} (p : X → Bool) (xs : List X) (x : X) → find p xs ≡ Some x → p x ≡ true
+pub found_passes : {X : Type 0} (p : X → Bool) (xs : List X) (x : X) → find p xs ≡ Some x → p x ≡ true
 found_passes p [] x e = absurd cc
 found_passes {X} p (y ∷ xs) x e = go (p y) refl e (λ h. found_passes p xs x h)
   where
@@ -37,7 +37,7 @@ found_passes {X} p (y ∷ xs) x e = go (p y) refl e (λ h. found_passes p xs x h
     go true h e ih = let s : y ≡ x = cc in ap p (sym s) ∙ h
     go false h e ih = ih e
 
-sign_length : (s : Sign) → 1 ≤ length (sign_text s)
+pub sign_length : (s : Sign) → 1 ≤ length (sign_text s)
 sign_length sign_of.LeftParen = omega arith
 sign_length _ = omega arith
 

@@ -3,3 +3,4 @@ pub mod Token
 pub mod Scan
 pub mod Lines
 pub mod Lexemes
+pub mod Longest
