@@ -1,0 +1,15 @@
+pub mod ReaderLaw
+pub mod Joined
+pub mod Repeated
+pub mod Lawful
+pub mod PartyLaws
+pub mod TokenLaws
+pub mod PartLaws
+pub mod StatementLaws
+pub mod LineTheorem
+pub mod Left
+pub mod Loops
+pub mod NamedLine
+pub mod TextTheorem
+pub mod TextLoop
+pub mod WholeText

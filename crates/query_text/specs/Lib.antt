@@ -1,0 +1,10 @@
+pub mod Parties
+pub mod Spelling
+pub mod Grammar
+pub mod Reading
+pub mod Forms
+pub mod Answers
+pub mod Separators
+pub mod Text
+pub mod ReadText
+pub mod Laws

@@ -1,0 +1,6 @@
+pub mod Tags
+pub mod Digits
+pub mod ScanSteps
+pub mod LineCuts
+pub mod RealTokens
+pub mod LongestFront

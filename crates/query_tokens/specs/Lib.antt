@@ -1,0 +1,6 @@
+pub mod Words
+pub mod Token
+pub mod Scan
+pub mod Lines
+pub mod Lexemes
+pub mod Longest
