@@ -1,5 +1,5 @@
 -- Orders are a group.
-use Rattle.std.proofs.Common.{◌≡◌, ◌≢◌, ℕ, suc, zero, ◌+◌, ◌<◌, ◌≤◌, true, false, eqb, List, [], ◌∷◌, ◌++◌, length, get_or, set, subst, ◌^◌, refl, sym, ◌∙◌, ap, ⊎_elim, inl, inr, arith, add-one, add-zero}
+use Rattle.std.proofs.Common.{◌≡◌, ◌≢◌, ℕ, suc, zero, ◌+◌, ◌<◌, ◌≤◌, true, false, eqb, List, [], ◌∷◌, ◌++◌, length, get_or, set, map, subst, ◌^◌, refl, sym, ◌∙◌, ap, ⊎_elim, inl, inr, arith, add-one, add-zero}
 use Rattle.std.specs.List.{range_with_len, list_any, IsDistinct, AllByRecursion}
 use Rattle.std.proofs.lemmas.List.{get_or-map, length-map, get_or_default, ext_get_or, length-set, get_or-set_same, get_or-set_other}
 use Rattle.std.proofs.lemmas.List.FromFn.{length-range_with_len, get_or-range_with_len}
@@ -247,3 +247,14 @@ short_inverse o p = record {
   order = IsOrder-inverse o p.order;
   short = let s : length o ≤ 2 ^ 32 = p.short in omega (arith, length-inverse o);
 }
+
+-- ---- what applying goes through
+
+-- a pick of places within the list goes through any function
+picked-map : (f : ℕ → ℕ) (ps xs : List ℕ) → ((k : ℕ) → k < length ps → get_or ps k 0 < length xs) → picked ps (map f xs) ≡ map f (picked ps xs)
+picked-map f [] xs h = refl
+picked-map f (p ∷ ps) xs h =
+    rw (get_or-map f xs p 0 0 (h 0 (omega arith)), picked-map f ps xs (λ k i. h (suc k) (omega arith))) refl
+
+pub applied-map : (f : ℕ → ℕ) (o xs : List ℕ) → IsOrder o → length o ≡ length xs → applied o (map f xs) ≡ map f (applied o xs)
+applied-map f o xs ok e = picked-map f o xs (λ k h. let b : get_or o k 0 < length o = ok.below k h in omega arith)

@@ -1,5 +1,6 @@
 -- The laws of orders, of aligning and of tapes from a seed.
 use Rattle.std.specs.Prelude.{◌≡◌, ℕ, List, length}
+use Rattle.lanes.specs.Lanes.{lanewise1, xors}
 use Rattle.tapes.specs.declared.draw.Need.{Need}
 use Rattle.tapes.specs.declared.draw.Draw.{Draw}
 use Rattle.tapes.specs.Order.{IsOrder, AllBelow, identity_of, applied, composed, inverse_of}
@@ -30,6 +31,11 @@ pub record InverseUndoes : Type 0 where
 -- applying one order after another one is applying both, one after the other
 abbrev pub ComposedIsApplied : Type 0
 ComposedIsApplied = (a b xs : List ℕ) → IsOrder b → length a ≡ length b → applied (composed a b) xs ≡ applied b (applied a xs)
+
+-- applying an order goes through any function of words, and through xor in each lane
+pub record AppliedGoesThrough : Type 0 where
+  pub map : (f : ℕ → ℕ) (o xs : List ℕ) → IsOrder o → length o ≡ length xs → applied o (lanewise1 f xs) ≡ lanewise1 f (applied o xs)
+  pub xor : (o xs ys : List ℕ) → applied o (xors xs ys) ≡ xors (applied o xs) (applied o ys)
 
 -- an order that aligns gives the target, is the only one, and is the inverse of the one that aligns
 -- the other way round

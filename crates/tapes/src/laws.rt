@@ -1,4 +1,4 @@
-ghost use Rattle.tapes.specs.Laws.{OrdersAreClosed, IdentityIsNeutral, OrdersAssociate, InverseUndoes, ComposedIsApplied, AlignedIsExact, MadeTapeIsOnly};
+ghost use Rattle.tapes.specs.Laws.{OrdersAreClosed, IdentityIsNeutral, OrdersAssociate, InverseUndoes, ComposedIsApplied, AppliedGoesThrough, AlignedIsExact, MadeTapeIsOnly};
 
 /// The laws of orders, which are a group: a call does nothing, and its contract states them.
 pub fn order_laws()
@@ -7,6 +7,7 @@ pub fn order_laws()
     ensures associative { OrdersAssociate }
     ensures inverse { InverseUndoes }
     ensures applied { ComposedIsApplied }
+    ensures goes_through { AppliedGoesThrough }
 {}
 
 /// The laws of the order that aligns two lists of rows.

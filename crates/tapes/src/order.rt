@@ -72,9 +72,11 @@ impl Order {
         requires { length next.now ≡ length self.now }
         ensures { IfOk result (λ order. order ≡ composed self.now next.now) }
     {
-        let mut places = Vec::with_capacity(alloc, next.places.len())?;
-        for place in &next.places {
-            places.push(self.places[*place as usize])?;
+        let first = &self.places;
+        let second = &next.places;
+        let mut places = Vec::with_capacity(alloc, second.len())?;
+        for place in second {
+            places.push(first[*place as usize])?;
         }
         Ok(Order { places })
     }

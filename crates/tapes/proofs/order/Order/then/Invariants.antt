@@ -4,4 +4,4 @@ use Rattle.tapes.proofs.order.Order.then.Given as goal
 
 abbrev pub invariant-loop-place : goal.invariant-loop-place
 invariant-loop-place l =
-    l.places.items ≡ take l.place-index (composed l.self-inside.places.items l.place-items)
+    l.places.items ≡ take l.place-index (composed l.first.items l.place-items)
