@@ -5,8 +5,7 @@ ghost use Rattle.std.specs.Prelude.{◌≡◌};
 use crate::node::{Node, Output};
 use std::marker::Model;
 
-/// Nodes in the order of the text, each of which uses only earlier ones, and outputs. A node's number is
-/// its place from 0. Seen as both lists.
+/// Nodes in the order of the text, and outputs. A node's number is its place from 0. Seen as both lists.
 #[derive(Debug, Drop)]
 pub struct Graph {
     nodes: Vec<Node>,
