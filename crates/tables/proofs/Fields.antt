@@ -11,7 +11,7 @@ use Rattle.words.specs.declared.column.Kind.{Kind}
 use Rattle.tables.specs.Outcome.{Gives, and_then, map_ok}
 use Rattle.tables.specs.File.{field_word, is_header, row_of, words_of}
 use Rattle.tables.specs.declared.fault.TableFault.{TableFault}
-use Rattle.tables.specs.declared.fault.TableFault.TheVariants.{NotTable, Memory}
+use Rattle.tables.proofs.Outcomes.{gives_along}
 
 -- the fields from a place on begin with the field at that place
 abbrev BeginsAt : List (List ℕ) → ℕ → Option (List ℕ) → Type 0
@@ -106,6 +106,6 @@ pub row_fails : {B : Type 0} (view : B → List ℕ) (line : ℕ) (columns : Lis
     → words_of line 0 (kinds_of columns) fields ≡ map_ok (λ words. row ++ words) (words_of line i (drop i (kinds_of columns)) (drop i fields))
     → Gives {A = ℕ} {B = ℕ} (λ word. word) (field_word line i column.kind (field_at fields i)) (Err fault)
     → Gives view (row_of line (kinds_of columns) fields) (Err fault)
-row_fails view line columns fields i column row Memory inside is wide so_far read = tt
-row_fails view line columns fields i column row NotTable inside is wide so_far read =
-    rw (same_width columns fields wide) (words_fail line columns fields i column row NotTable inside is so_far read)
+row_fails view line columns fields i column row fault inside is wide so_far given =
+    gives_along (λ (word : ℕ). word) view (field_word line i column.kind (field_at fields i)) (row_of line (kinds_of columns) fields) fault
+    (λ read. rw (same_width columns fields wide) (words_fail line columns fields i column row fault inside is so_far read)) given

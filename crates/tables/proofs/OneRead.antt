@@ -9,7 +9,7 @@ use Rattle.std.specs.Bool.{OnTrue, OnFalse}
 use Rattle.csv.specs.declared.error.Error.{Error}
 use Rattle.tables.specs.declared.fault.TableFault.{TableFault}
 use Rattle.csv.specs.Machine.{Read, ends_at_end, next_record}
-use Rattle.csv.specs.Reading.{NextIs, ReadRecord, ReadsNext, default_config, Ready, pending_of, reader_trim, took_first}
+use Rattle.csv.specs.Reading.{NextIs, ReadRecord, ReadsNext, default_config, Ready, is_flexible, pending_of, reader_trim, took_first}
 use Rattle.csv.specs.declared.reader.Trim.TheVariants as trim
 use Rattle.csv.specs.declared.parser.Config.{Config}
 use Rattle.csv.specs.declared.parser.State.{State}
@@ -53,9 +53,9 @@ source_is_pending : (reader : BytesReader) → reader.bom_checked ≡ true
 source_is_pending reader checked = rw checked refl
 
 -- what a read that found a record says
-pub takes_record : (old new : BytesReader) (fields : List (List ℕ)) → IsReading old → took_first new ≡ true
+pub takes_record : (old new : BytesReader) (fields : List (List ℕ)) → IsReading old → took_first new ≡ true → is_flexible new ≡ is_flexible old
     → ReadRecord (λ (s : Bor (List ℕ)). Some s.now) old new true fields → TakesRecord old new fields
-takes_record old new fields before first read =
+takes_record old new fields before first same read =
     let source = source_is_pending new read.1 in
     let next = rw (before.config) at read.0 in
     let h = option_found old.state new.state fields (bytes_left old) (pending_of (Some new.rdr.now) new) before.known before.between next in
@@ -63,6 +63,7 @@ takes_record old new fields before first read =
       reading = record {
         config = read.2 ∙ before.config;
         trim = read.3 ∙ before.trim;
+        flexible = same ∙ before.flexible;
         ready = inl first;
         between = h.0;
         known = rw source h.1;
@@ -82,13 +83,13 @@ abbrev Passes : Result Bool Error → Result Bool TableFault → Type 0
 Passes read answer = MatchResult read (λ x. answer ≡ Ok x) (λ _. is_ok answer ≡ false)
 
 pub found_by : (old new : BytesReader) (fields : List (List ℕ)) (read : Result Bool Error) (answer : Result Bool TableFault) → IsReading old
-    → OnOk read (took_first new ≡ true)
+    → OnOk read (took_first new ≡ true) → OnOk read (is_flexible new ≡ is_flexible old)
     → IfOk read (λ found. (reader_trim old ≡ trim.None) → Ready old → ReadRecord (λ (s : Bor (List ℕ)). Some s.now) old new found fields)
     → Passes read answer → IfOk answer (λ found. OnTrue found (TakesRecord old new fields)) × IfOk answer (λ found. OnFalse found (unread old ≡ []))
-found_by old new fields (Ok true) answer before first reads is = rw is (takes_record old new fields before first (reads before.trim before.ready), tt)
-found_by old new fields (Ok false) answer before first reads is = rw is (tt, takes_none old new fields before (reads before.trim before.ready))
-found_by old new fields (Err e) (Ok x) before first reads is = absurd (false≢true (sym is))
-found_by old new fields (Err e) (Err f) before first reads is = (tt, tt)
+found_by old new fields (Ok true) answer before first same reads is = rw is (takes_record old new fields before first same (reads before.trim before.ready), tt)
+found_by old new fields (Ok false) answer before first same reads is = rw is (tt, takes_none old new fields before (reads before.trim before.ready))
+found_by old new fields (Err e) (Ok x) before first same reads is = absurd (false≢true (sym is))
+found_by old new fields (Err e) (Err f) before first same reads is = (tt, tt)
 
 pub passes : (read : Result Bool Error) (answer : Result Bool TableFault) (Q : Error → Type 0) → MatchResult read (λ x. answer ≡ Ok x) Q
     → is_ok answer ≡ is_ok read → Passes read answer

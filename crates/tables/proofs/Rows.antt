@@ -1,18 +1,16 @@
 -- The table of the records that were read, beside those that are left.
-use Rattle.std.proofs.Common.{◌≡◌, ℕ, ◌+◌, ◌<◌, ◌≤◌, Bool, true, false, cond, List, [], ◌∷◌, ◌++◌, Result, Ok, Err, length, refl, sym, ap, ◌∙◌, subst, arith, ◌==◌}
-use Rattle.std.specs.Prelude.{nat_lt}
-use Rattle.std.proofs.lemmas.Bool.Decides.{nat_tests}
+use Rattle.std.proofs.Common.{◌≡◌, ℕ, ◌+◌, ◌≤◌, Bool, true, false, cond, List, [], ◌∷◌, ◌++◌, Result, Ok, Err, length, refl, sym, ap, ◌∙◌, subst, arith, ◌==◌}
 use Rattle.std.proofs.lemmas.List.{append-nil, length-map}
 use Rattle.words.specs.Columns.{kinds_of, word_of}
 use Rattle.words.specs.declared.column.Column.{Column}
 use Rattle.words.specs.declared.column.Kind.{Kind}
 use Rattle.tables.specs.Outcome.{Gives, and_then, map_ok}
 use Rattle.tables.specs.Content.{Content, with_row}
-use Rattle.tables.specs.File.{at_place, row_of, rows_of, table_under, words_of}
+use Rattle.tables.specs.File.{at_place, fields_fault, row_of, rows_of, table_under, within, words_of}
 use Rattle.tables.specs.Records.{BytesReader, IsReading, TakesRecord, unread}
 use Rattle.tables.specs.declared.fault.TableFault.{TableFault}
-use Rattle.tables.specs.declared.fault.TableFault.TheVariants.{NotTable, Memory}
 use Rattle.tables.proofs.Fields.{map_ok-push}
+use Rattle.tables.proofs.Outcomes.{fits_within, gives_along, no_more, within_fits}
 
 -- behind a header, i records were read into the table, and the reader has the rest of them
 pub record RowsSoFar (columns : List Column) (behind : List (List (List ℕ))) (reader : BytesReader) (table : Content) (i : ℕ) : Type 0 where
@@ -55,53 +53,74 @@ so_far-more columns behind old new table i fields row before takes is =
           ∙ ap (λ n. map_ok (λ rows. (table.rows ++ row ∷ []) ++ rows) (rows_of n (kinds_of columns) (unread new))) line;
     }
 
--- a test of the count of records
-over : (declared n : ℕ) → declared < n → nat_lt declared n ≡ true
-over declared n more = grind (arith, nat_tests)
-
-not_over : (declared n : ℕ) → n ≤ declared → nat_lt declared n ≡ false
-not_over declared n within = grind (arith, nat_tests)
-
 whole : (columns : List Column) (table : Content) → table.columns ≡ columns → (let t : Content = record { columns = columns; rows = table.rows ++ [] } in t) ≡ table
 whole columns table same =
     ap (λ c. let t : Content = record { columns = c; rows = table.rows ++ [] } in t) (sym same)
     ∙ ap (λ r. let t : Content = record { columns = table.columns; rows = r } in t) (append-nil table.rows)
+
+-- the table's rows where the count of records fits
+counted : (columns : List Column) (declared : ℕ) (behind : List (List (List ℕ))) → within declared (length behind) ≡ Ok tt
+    → table_under columns declared behind ≡ map_ok (λ rows. record { columns = columns; rows = rows }) (rows_of 2 (kinds_of columns) behind)
+counted columns declared behind fits = rw fits refl
 
 -- every record was read
 pub so_far-end : (columns : List Column) (behind : List (List (List ℕ))) (reader : BytesReader) (table : Content) (i declared : ℕ)
     → RowsSoFar columns behind reader table i → unread reader ≡ [] → i ≤ declared
     → table_under columns declared behind ≡ Ok table
 so_far-end columns behind reader table i declared before none within =
-    rw (not_over declared (length behind) (omega (arith, before.count, ap length none)))
-    (ap (map_ok (λ rows. record { columns = columns; rows = rows }))
+    counted columns declared behind (fits_within declared (length behind) (omega (arith, before.count, ap length none)))
+    ∙ ap (map_ok (λ rows. record { columns = columns; rows = rows }))
     (before.rows ∙ ap (λ left. map_ok (λ rows. table.rows ++ rows) (rows_of (2 + i) (kinds_of columns) left)) none)
-    ∙ ap Ok (whole columns table before.same_columns))
+    ∙ ap Ok (whole columns table before.same_columns)
 
--- one record that is no row spoils the table, however many there are
-spoiled : (b : Bool) (columns : List Column) (rows : Result (List (List ℕ)) TableFault) → rows ≡ Err NotTable
-    → cond b (Err NotTable) (map_ok (λ r. let t : Content = record { columns = columns; rows = r } in t) rows) ≡ Err NotTable
-spoiled true columns rows is = refl
-spoiled false columns rows is = rw is refl
+-- as many as were declared were read, and no more are left
+pub so_far-full : (columns : List Column) (behind : List (List (List ℕ))) (reader : BytesReader) (table : Content) (declared : ℕ)
+    → RowsSoFar columns behind reader table declared → within declared (declared + length (unread reader)) ≡ Ok tt
+    → table_under columns declared behind ≡ Ok table
+so_far-full columns behind reader table declared before fits =
+    let none = no_more (unread reader) declared (within_fits declared (declared + length (unread reader)) fits) in
+    so_far-end columns behind reader table declared declared before none (omega arith)
 
--- a record that is no row
+-- records whose count doesn't fit
+over : (columns : List Column) (declared found : ℕ) (behind : List (List (List ℕ))) (fault : TableFault) → length behind ≡ found
+    → within declared found ≡ Err fault → table_under columns declared behind ≡ Err fault
+over columns declared found behind fault count is = rw (count, is) refl
+
+pub so_far-over : {V : Type 0} (view : V → Unit {0}) (columns : List Column) (behind : List (List (List ℕ))) (reader : BytesReader) (table : Content) (i declared : ℕ) (fault : TableFault)
+    → RowsSoFar columns behind reader table i → Gives view (within declared (i + length (unread reader))) (Err fault)
+    → Gives {A = Content} {B = Content} (λ t. t) (table_under columns declared behind) (Err fault)
+so_far-over view columns behind reader table i declared fault before given =
+    gives_along view (λ (t : Content). t) (within declared (i + length (unread reader))) (table_under columns declared behind) fault
+    (over columns declared (i + length (unread reader)) behind fault before.count) given
+
+-- the count of records, the one that was taken last with them
+pub so_far-count : (columns : List Column) (behind : List (List (List ℕ))) (old new : BytesReader) (table : Content) (i : ℕ) (fields : List (List ℕ))
+    → RowsSoFar columns behind old table i → TakesRecord old new fields → length behind ≡ i + 1 + length (unread new)
+so_far-count columns behind old new table i fields before takes = omega (arith, before.count, ap length takes.taken)
+
+-- the same behind one more record, which is no row
+pub so_far-over-next : {V : Type 0} (view : V → Unit {0}) (columns : List Column) (behind : List (List (List ℕ))) (old new : BytesReader) (table : Content) (i declared : ℕ)
+    (fields : List (List ℕ)) (fault : TableFault)
+    → RowsSoFar columns behind old table i → TakesRecord old new fields → Gives view (within declared (i + 1 + length (unread new))) (Err fault)
+    → Gives {A = Content} {B = Content} (λ t. t) (table_under columns declared behind) (Err fault)
+so_far-over-next view columns behind old new table i declared fields fault before takes given =
+    gives_along view (λ (t : Content). t) (within declared (i + 1 + length (unread new))) (table_under columns declared behind) fault
+    (over columns declared (i + 1 + length (unread new)) behind fault (so_far-count columns behind old new table i fields before takes)) given
+
+-- a record that is no row, where the count of records fits
 pub so_far-fails : {V : Type 0} (view : V → List ℕ) (columns : List Column) (behind : List (List (List ℕ))) (old new : BytesReader) (table : Content) (i declared : ℕ)
     (fields : List (List ℕ)) (fault : TableFault)
-    → RowsSoFar columns behind old table i → TakesRecord old new fields
+    → RowsSoFar columns behind old table i → TakesRecord old new fields → within declared (i + 1 + length (unread new)) ≡ Ok tt
     → Gives view (row_of (2 + i) (kinds_of columns) fields) (Err fault)
     → Gives {A = Content} {B = Content} (λ t. t) (table_under columns declared behind) (Err fault)
-so_far-fails view columns behind old new table i declared fields Memory before takes is = tt
-so_far-fails view columns behind old new table i declared fields NotTable before takes is =
-    let row = λ (r : Result (List ℕ) TableFault). and_then r (λ words. map_ok (λ rows. words ∷ rows) (rows_of (2 + i + 1) (kinds_of columns) (unread new))) in
-    spoiled (nat_lt declared (length behind)) columns _
-    (before.rows
+so_far-fails view columns behind old new table i declared fields fault before takes fits given =
+    let first = λ (r : Result (List ℕ) TableFault). and_then r (λ words. map_ok (λ rows. words ∷ rows) (rows_of (2 + i + 1) (kinds_of columns) (unread new))) in
+    let content = λ (rows : List (List ℕ)). let t : Content = record { columns = columns; rows = rows } in t in
+    gives_along view (λ (t : Content). t) (row_of (2 + i) (kinds_of columns) fields) (table_under columns declared behind) fault
+    (λ is. counted columns declared behind (ap (within declared) (so_far-count columns behind old new table i fields before takes) ∙ fits)
+    ∙ ap (map_ok content) (before.rows
     ∙ ap (λ left. map_ok (λ rows. table.rows ++ rows) (rows_of (2 + i) (kinds_of columns) left)) takes.taken
-    ∙ ap (λ r. map_ok (λ rows. table.rows ++ rows) (row r)) is)
-
--- more records than were declared
-pub so_far-over : (columns : List Column) (behind : List (List (List ℕ))) (old new : BytesReader) (table : Content) (declared : ℕ) (fields : List (List ℕ))
-    → RowsSoFar columns behind old table declared → TakesRecord old new fields → table_under columns declared behind ≡ Err NotTable
-so_far-over columns behind old new table declared fields before takes =
-    rw (over declared (length behind) (omega (arith, before.count, ap length takes.taken))) refl
+    ∙ ap (λ r. map_ok (λ rows. table.rows ++ rows) (first r)) is)) given
 
 -- what an answer's parts are, where it is Ok
 and_then-ok : {A B E : Type 0} (r : Result A E) (next : A → Result B E) (y : B) → and_then r next ≡ Ok y → (x : A) × (r ≡ Ok x) × (next x ≡ Ok y)
@@ -125,7 +144,7 @@ length-words_of line column (kind ∷ kinds) (field ∷ fields) row is =
     let more = length-words_of line (column + 1) kinds fields rest.0 rest.1 in
     omega (arith, more, ap length rest.2)
 
-row_cases : (b : Bool) (line : ℕ) (kinds : List Kind) (fields : List (List ℕ)) (row : List ℕ) → cond b (words_of line 0 kinds fields) (Err NotTable) ≡ Ok row
+row_cases : (b : Bool) (line : ℕ) (kinds : List Kind) (fields : List (List ℕ)) (row : List ℕ) → cond b (words_of line 0 kinds fields) (Err (fields_fault line)) ≡ Ok row
     → length row ≡ length kinds
 row_cases true line kinds fields row is = length-words_of line 0 kinds fields row is
 row_cases false line kinds fields row is = cc

@@ -7,14 +7,17 @@ use Rattle.bags.specs.Sorted.{sorted}
 use Rattle.csv.specs.Writing.{default_writer, fields_written, has_written, row_text, text_written, writer_setup}
 use Rattle.csv.specs.declared.writer.Writer.{Writer}
 use Rattle.words.specs.Columns.{kinds_of, names_of}
+use Rattle.words.specs.Texts.{unpacked}
 use Rattle.words.specs.declared.column.Column.{Column}
 use Rattle.words.specs.declared.column.Kind.{Kind}
-use Rattle.words.specs.declared.column.Kind.TheVariants.{Num}
+use Rattle.words.specs.declared.column.Kind.TheVariants.{Num, Text, Flag}
 use Rattle.tables.specs.Content.{Content}
 
 -- the field that a word is written as in a column of this kind
 abbrev pub written : Kind → ℕ → List ℕ
 written Num word = decimal word
+written Text word = unpacked word
+written Flag word = decimal word
 
 -- the fields of a row in columns of these kinds
 abbrev pub fields_written_of : List Kind → List ℕ → List (List ℕ)

@@ -1,33 +1,33 @@
 -- The table that a file's bytes are under a declaration, or why they are none.
-use Rattle.std.specs.Prelude.{ℕ, ◌+◌, ◌==◌, nat_eq, nat_lt, Bool, if◌then◌else◌, List, [], ◌∷◌, Option, Some, None, Result, Ok, Err, length}
+use Rattle.std.specs.Prelude.{◌≢◌, ℕ, ◌+◌, ◌==◌, nat_lt, All, Bool, if◌then◌else◌, List, [], ◌∷◌, Option, Some, None, Result, Ok, Err, length}
 use Rattle.std.specs.Cmp.Lexicographic.{pointwise}
-use Rattle.std.specs.List.{starts_with}
 use Rattle.std.specs.Str.{bytes_eq}
-use Rattle.csv.specs.Reading.{default_config, records}
+use Rattle.csv.specs.Reading.{default_config, records, strip_bom}
 use Rattle.words.specs.Columns.{kinds_of, names_of, word_of}
 use Rattle.words.specs.declared.column.Column.{Column}
 use Rattle.words.specs.declared.column.Kind.{Kind}
+use Rattle.words.specs.declared.column.Kind.TheVariants.{Flag}
 use Rattle.words.specs.declared.num.ValueFault.{ValueFault}
 use Rattle.tables.specs.Outcome.{and_then, map_ok}
 use Rattle.tables.specs.Content.{Content}
 use Rattle.tables.specs.declared.fault.TableFault.{TableFault}
-use Rattle.tables.specs.declared.fault.TableFault.TheVariants.{NotTable}
+use Rattle.tables.specs.declared.fault.TableFault.TheVariants.{Header, Rows, Fields, Value}
 
 -- what is said of a first record that isn't the names of the columns
 abbrev pub header_fault : TableFault
-header_fault = NotTable
+header_fault = Header
 
 -- of more records behind it than were declared
 abbrev pub rows_fault : ℕ → ℕ → TableFault
-rows_fault declared found = NotTable
+rows_fault declared found = Rows declared found
 
 -- of a record, by its number from 1, that has more or fewer fields than there are columns
 abbrev pub fields_fault : ℕ → TableFault
-fields_fault line = NotTable
+fields_fault line = Fields line
 
 -- and of a field that is no value of its column's kind
 abbrev pub value_fault : ℕ → ℕ → ValueFault → TableFault
-value_fault line column fault = NotTable
+value_fault line column fault = Value line column fault
 
 -- a record is the columns' names, in order
 abbrev pub is_header : List (List ℕ) → List (List ℕ) → Bool
@@ -60,11 +60,14 @@ rows_of line kinds [] = Ok []
 rows_of line kinds (first ∷ rest) =
     and_then (row_of line kinds first) (λ row. map_ok (λ rows. row ∷ rows) (rows_of (line + 1) kinds rest))
 
--- the table of the records behind a header
+-- so many records are no more than were declared
+abbrev pub within : ℕ → ℕ → Result (Unit {0}) TableFault
+within declared found = if nat_lt declared found then Err (rows_fault declared found) else Ok tt
+
+-- the table of the records behind a header: their number counts before what they hold
 abbrev pub table_under : List Column → ℕ → List (List (List ℕ)) → Result Content TableFault
 table_under columns declared rest =
-    if nat_lt declared (length rest) then Err (rows_fault declared (length rest))
-    else map_ok (λ rows. record { columns = columns; rows = rows }) (rows_of 2 (kinds_of columns) rest)
+    and_then (within declared (length rest)) (λ _. map_ok (λ rows. record { columns = columns; rows = rows }) (rows_of 2 (kinds_of columns) rest))
 
 -- the table of a file's records, the first of which is to be the header
 abbrev pub table_of : List Column → ℕ → List (List (List ℕ)) → Result Content TableFault
@@ -72,12 +75,10 @@ table_of columns declared [] = Err header_fault
 table_of columns declared (header ∷ rest) =
     if is_header (names_of columns) header then table_under columns declared rest else Err header_fault
 
--- the bytes EF BB BF, which some editors put before a text
-abbrev pub byte_order_mark : List ℕ
-byte_order_mark = 0xEF ∷ 0xBB ∷ 0xBF ∷ []
-
--- the table of a file's bytes: a file that begins with a byte order mark is none, and the records of any
--- other are those that csv reads by its defaults
+-- the table of a file's bytes: of the records that csv reads by its defaults behind a byte order mark, if there is one
 abbrev pub table_in : List Column → ℕ → List ℕ → Result Content TableFault
-table_in columns declared bytes =
-    if starts_with nat_eq bytes byte_order_mark then Err NotTable else table_of columns declared (records default_config bytes)
+table_in columns declared bytes = table_of columns declared (records default_config (strip_bom bytes))
+
+-- no column is one of flags, which files don't have
+abbrev pub HasNoFlag : List Column → Type 0
+HasNoFlag columns = All (λ column. column.kind ≢ Flag) columns

@@ -4,3 +4,4 @@ pub mod Records
 pub mod Outcome
 pub mod File
 pub mod Answer
+pub mod FaultText

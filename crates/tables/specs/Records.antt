@@ -1,9 +1,9 @@
 -- The records that a text, or a reader in the midst of it, has left.
-use Rattle.std.specs.Prelude.{◌≡◌, ℕ, ◌+◌, ◌∷◌, List, [], false, Option, Some, IsSome, length}
+use Rattle.std.specs.Prelude.{◌≡◌, ℕ, ◌+◌, ◌∷◌, List, [], true, false, Option, Some, IsSome, length}
 use Rattle.std.specs.Option.{option_map_or}
 use Rattle.std.proofs.Common.{Bor}
 use Rattle.csv.specs.Machine.{ends_at_end}
-use Rattle.csv.specs.Reading.{Ready, default_config, reader_config, reader_state, reader_trim, records_from, source_of}
+use Rattle.csv.specs.Reading.{Ready, default_config, is_flexible, reader_config, reader_state, reader_trim, records_from, source_of}
 use Rattle.csv.specs.declared.parser.Config.{Config}
 use Rattle.csv.specs.declared.parser.State.{State}
 use Rattle.csv.specs.declared.reader.Reader.{Reader}
@@ -21,10 +21,11 @@ BytesReader = Reader (Bor (List ℕ))
 abbrev pub bytes_left : BytesReader → Option (List ℕ)
 bytes_left reader = source_of (λ (s : Bor (List ℕ)). Some s.now) reader
 
--- it reads by csv's defaults, stands between two records, and its bytes are known
+-- it reads by csv's defaults, records of any number of fields, stands between two records, and its bytes are known
 pub record IsReading (reader : BytesReader) : Type 0 where
   pub config : reader_config reader ≡ default_config
   pub trim : reader_trim reader ≡ trim.None
+  pub flexible : is_flexible reader ≡ true
   pub ready : Ready reader
   pub between : ends_at_end (reader_state reader) ≡ false
   pub known : IsSome (bytes_left reader)

@@ -13,13 +13,13 @@ use csv::{ByteRecord, Writer};
 use itoa::Buffer;
 use std::alloc::{AllocError, Global};
 use std::io::Write;
-use words::{Column, Kind};
+use words::{Column, Kind, unpack_text};
 
 /// The text of a table as an answer: a header with the columns' names, and then the rows in the order of
 /// their words, each as a record that ends with a line feed.
 ///
-/// It depends on the columns and on how often each row occurs, and not on the order of the rows. A number
-/// is written in shortest decimal. Takes n log n comparisons of rows and one pass of writing.
+/// It depends on the columns and on how often each row occurs, and not on the order of the rows. A number or
+/// a flag is written in shortest decimal, a text as its bytes. Takes n log n comparisons of rows and one pass of writing.
 pub fn answer_text(alloc: Global, table: &Table) -> Result<Vec<u8>, AllocError>
     ensures text { IfOk result (λ text. text.items ≡ answer_of table.now) }
 {
@@ -55,7 +55,7 @@ fn write_rows(alloc: Global, columns: &[Column], rows: &[&[u64]]) -> Result<Vec<
     // Its memory serves each row.
     let mut fields = header;
     for row in rows {
-        fill_record(&mut fields, columns, row)?;
+        fill_record(alloc, &mut fields, columns, row)?;
         put_record(&mut writer, &fields)?;
     }
     match writer.into_inner() {
@@ -76,20 +76,26 @@ fn header_fields(alloc: Global, columns: &[Column]) -> Result<ByteRecord, AllocE
 }
 
 // Makes the record that of a row.
-fn fill_record(fields: &mut ByteRecord, columns: &[Column], row: &[u64]) -> Result<(), AllocError>
+fn fill_record(
+    alloc: Global,
+    fields: &mut ByteRecord,
+    columns: &[Column],
+    row: &[u64],
+) -> Result<(), AllocError>
     requires { length row.now ≡ length columns.now }
     ensures { OnOk result (fields_of fields.new ≡ fields_written_of (kinds_of columns.now) row.now) }
 {
     fields.clear();
     let mut digits = Buffer::new();
     for (index, word) in row.iter().enumerate() {
-        push_word(fields, &mut digits, columns[index].kind, *word)?;
+        push_word(alloc, fields, &mut digits, columns[index].kind, *word)?;
     }
     Ok(())
 }
 
 // One more field behind whole fields.
 fn push_word(
+    alloc: Global,
     fields: &mut ByteRecord,
     digits: &mut Buffer,
     kind: Kind,
@@ -100,7 +106,8 @@ fn push_word(
     ensures whole { OnOk result (partial_of fields.new ≡ []) }
 {
     match kind {
-        Kind::Num => fields.push_field(digits.format(word).as_bytes()),
+        Kind::Num | Kind::Flag => fields.push_field(digits.format(word).as_bytes()),
+        Kind::Text => fields.push_field(&unpack_text(alloc, word)?),
     }
 }
 
@@ -162,6 +169,22 @@ mod tests {
             let table = table_with_rows(rt.alloc(), names, rows)?;
             assert!(rt; answer_text(rt.alloc(), &table)?.as_slice() == want);
         }
+        Ok(())
+    }
+
+    #[test]
+    fn writes_each_kind_in_its_own_way(rt: HostRuntime) -> Result<(), Fail> {
+        let mut columns = Vec::new(rt.alloc());
+        for (name, kind) in [(b"n", Kind::Num), (b"t", Kind::Text), (b"f", Kind::Flag)] {
+            let name = Label::new(rt.alloc(), name)?;
+            columns.push(Column { name, kind })?;
+        }
+        let mut table = Table::new(rt.alloc(), columns);
+        assert_eq!(rt; table.columns().len(), 3);
+        table.push(&[7, 0x3032_3133_3900_0000, 1])?;
+        table.push(&[7, 0, 0])?;
+        let text = answer_text(rt.alloc(), &table)?;
+        assert_eq!(rt; text.as_slice(), b"n,t,f\n7,,0\n7,02139,1\n".as_slice());
         Ok(())
     }
 }

@@ -2,8 +2,8 @@
 //!
 //! Stands on `words` for the meaning of a field, on `bags` and on the kit's `csv` for records. A table is seen as its
 //! columns and its list of rows, each as long as the columns. The main promise: `read_table` answers
-//! exactly the table that a file's records are under a declaration, or that they are none, and
-//! `answer_text` the text of a table, a function of its columns and of the bag of its rows.
+//! exactly the table that a file's records are under a declaration, or the first reason why they are none,
+//! and `answer_text` the text of a table, a function of its columns and of the bag of its rows.
 #![tactic(auto)]
 
 mod answer;
@@ -14,6 +14,6 @@ mod row;
 mod table;
 
 pub use answer::{answer_text, answers_of_equal_bags};
-pub use fault::TableFault;
+pub use fault::{TableFault, fault_text};
 pub use file::read_table;
 pub use table::Table;

@@ -11,6 +11,10 @@ use std::marker::Model;
 pub enum Kind {
     /// The word itself, a number below 2^64.
     Num,
+    /// A text of at most 8 bytes from space to tilde, packed from the high byte and padded with zeros.
+    Text,
+    /// 0 or 1, as a comparison gives it.
+    Flag,
 }
 
 /// A name, seen as its list of bytes.

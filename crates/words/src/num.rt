@@ -20,6 +20,12 @@ pub enum ValueFault {
     /// The number is above 2^64 - 1.
     #[error("too large")]
     TooLarge,
+    /// The text has more than 8 bytes.
+    #[error("text too long")]
+    TextLong,
+    /// A byte of the text isn't from space to tilde.
+    #[error("text byte")]
+    TextByte,
 }
 
 /// The number that a field writes: one or more ASCII digits, leading zeros allowed.

@@ -1,16 +1,26 @@
-use crate::{Table, TableFault, read_table};
+ghost use Rattle.std.specs.Prelude.{◌≡◌, ◌≢◌, IfOk};
+ghost use Rattle.tables.specs.File.{HasNoFlag};
+
+use crate::{Table, TableFault, answer_text, fault_text, read_table};
 use std::alloc::{AllocError, Global};
 use std::test::Fail;
-use words::{Column, Kind, Label};
+use words::{Column, Kind, Label, ValueFault};
 
-// The declaration `(x num, y num)`.
-fn x_and_y(alloc: Global) -> Result<Vec<Column>, AllocError> {
+fn column(alloc: Global, name: &[u8], kind: Kind) -> Result<Column, AllocError>
+    ensures { IfOk result (λ column. column.kind ≡ kind) }
+{
+    let name = Label::new(alloc, name)?;
+    Ok(Column { name, kind })
+}
+
+// The declaration of a column of numbers, and of one of the other kind behind it.
+fn two_columns(alloc: Global, other: Column) -> Result<Vec<Column>, AllocError>
+    requires { other.kind ≢ Kind.Flag }
+    ensures { IfOk result (λ columns. HasNoFlag columns.items) }
+{
     let mut columns = Vec::new(alloc);
-    for name in [b"x", b"y"] {
-        let name = Label::new(alloc, name)?;
-        let kind = Kind::Num;
-        columns.push(Column { name, kind })?;
-    }
+    columns.push(column(alloc, b"x", Kind::Num)?)?;
+    columns.push(other)?;
     Ok(columns)
 }
 
@@ -25,7 +35,7 @@ fn cells(alloc: Global, table: &Table) -> Result<Vec<u64>, AllocError> {
 
 #[test]
 fn reads_tables_whatever_their_line_ends_and_quotes(rt: HostRuntime) -> Result<(), Fail> {
-    let columns = x_and_y(rt.alloc())?;
+    let columns = two_columns(rt.alloc(), column(rt.alloc(), b"y", Kind::Num)?)?;
     let max = u64::MAX;
     for (text, want) in [
         ("x,y\n2,9\n1,8\n2,7\n", [2, 9, 1, 8, 2, 7].as_slice()),
@@ -34,6 +44,7 @@ fn reads_tables_whatever_their_line_ends_and_quotes(rt: HostRuntime) -> Result<(
         ("x,y", &[]),
         ("\"x\",\"y\"\n\"1\",2\n", &[1, 2]),
         ("x,y\r\n1,2\r\n3,4\r\n", &[1, 2, 3, 4]),
+        ("\u{FEFF}x,y\r\n1,2\r\n", &[1, 2]),
         ("x,y\r1,2\r", &[1, 2]),
         ("\n\r\n\nx,y\n\n1,2\n\n\n", &[1, 2]),
         ("x,y\n1,\"2", &[1, 2]),
@@ -48,32 +59,143 @@ fn reads_tables_whatever_their_line_ends_and_quotes(rt: HostRuntime) -> Result<(
 }
 
 #[test]
-fn refuses_bytes_that_are_no_table(rt: HostRuntime) -> Result<(), Fail> {
-    let columns = x_and_y(rt.alloc())?;
-    for text in [
-        "",
-        "\n\n",
-        "y,x\n1,2\n",
-        "x\n1\n",
-        "x,y,z\n1,2,3\n",
-        "x, y\n1,2\n",
-        "X,y\n1,2\n",
-        "1,2\n",
-        "x,y\n1,2\n1,2\n1,2\n1,2\n",
-        "x,y\nx,y\n",
-        "x,y\n1\n",
-        "x,y\n1,2,3\n",
-        "x,y\n1,2,\n",
-        "x,y\n1,2\n\"\"\n",
-        "x,y\n1,\n",
-        "x,y\n1, 2\n",
-        "x,y\n1,-2\n",
-        "x,y\n1,2\"\n",
-        "x,y\n18446744073709551616,0\n",
-        "\u{FEFF}x,y\n1,2\n",
+fn writes_texts_back_as_they_were_read(rt: HostRuntime) -> Result<(), Fail> {
+    let columns = two_columns(rt.alloc(), column(rt.alloc(), b"t", Kind::Text)?)?;
+    for (text, want) in [
+        ("x,t\n1,02139\n", "x,t\n1,02139\n"),
+        ("x,t\n1,\"ab,cdefg\"\n", "x,t\n1,\"ab,cdefg\"\n"),
+        ("x,t\n01,\"a\"\"b\"\n1,\n", "x,t\n1,\n1,\"a\"\"b\"\n"),
+        ("x,t\n7,b\n7,aa\n", "x,t\n7,aa\n7,b\n"),
+        ("\u{FEFF}x,t\r\n1, ~\r\n", "x,t\n1, ~\n"),
     ] {
-        let answer = read_table(rt.alloc(), text.as_bytes(), &columns, 3);
-        assert_eq!(rt; answer.err(), Some(TableFault::NotTable), "at {text}");
+        let table = read_table(rt.alloc(), text.as_bytes(), &columns, 2)?;
+        let answer = answer_text(rt.alloc(), &table)?;
+        assert_eq!(rt; answer.as_slice(), want.as_bytes(), "at {text}");
     }
+    Ok(())
+}
+
+const NOT_NUMBER: TableFault = TableFault::Value {
+    line: 2,
+    column: 0,
+    fault: ValueFault::NotNumber,
+};
+
+const TEXT_BYTE: TableFault = TableFault::Value {
+    line: 2,
+    column: 1,
+    fault: ValueFault::TextByte,
+};
+
+const TEXT_LONG: TableFault = TableFault::Value {
+    line: 2,
+    column: 1,
+    fault: ValueFault::TextLong,
+};
+
+const TOO_LARGE: TableFault = TableFault::Value {
+    line: 3,
+    column: 0,
+    fault: ValueFault::TooLarge,
+};
+
+#[test]
+fn tells_the_first_fault_of_a_file(rt: HostRuntime) -> Result<(), Fail> {
+    let columns = two_columns(rt.alloc(), column(rt.alloc(), b"t", Kind::Text)?)?;
+    let many = TableFault::Rows {
+        declared: 2,
+        found: 3,
+    };
+    let cases: [(&[u8], TableFault, &[u8]); 18] = [
+        (b"", TableFault::Header, b"header"),
+        (b"\n\n", TableFault::Header, b"header"),
+        (b"t,x\na,1\n", TableFault::Header, b"header"),
+        (b"x\n1\n1\n1\n", TableFault::Header, b"header"),
+        (b"x, t\n1,a\n", TableFault::Header, b"header"),
+        (
+            b"\xEF\xBB\xBF\xEF\xBB\xBFx,t\n1,a\n",
+            TableFault::Header,
+            b"header",
+        ),
+        (b"x,t\n1,a\n1,a\n1,a\n", many, b"3 records, at most 2"),
+        (b"x,t\na\n,b,c\n\"\"\n", many, b"3 records, at most 2"),
+        (b"x,t\n1,a\n1,a\nx\n", many, b"3 records, at most 2"),
+        (
+            b"x,t\n1\n",
+            TableFault::Fields { line: 2 },
+            b"record 2: fields",
+        ),
+        (
+            b"x,t\nz,a,b\n",
+            TableFault::Fields { line: 2 },
+            b"record 2: fields",
+        ),
+        (
+            b"x,t\n1,a\n\"\"\n",
+            TableFault::Fields { line: 3 },
+            b"record 3: fields",
+        ),
+        (
+            b"x,t\n,a\n1\n",
+            NOT_NUMBER,
+            b"record 2 column x: not a number",
+        ),
+        (
+            b"x,t\n,abcdefghi\n",
+            NOT_NUMBER,
+            b"record 2 column x: not a number",
+        ),
+        (
+            b"x,t\n1,\xC3\xA9\n",
+            TEXT_BYTE,
+            b"record 2 column t: text byte",
+        ),
+        (
+            b"x,t\n1,abcdefghi\n",
+            TEXT_LONG,
+            b"record 2 column t: text too long",
+        ),
+        (
+            b"x,t\n1,a\n18446744073709551616,a\n",
+            TOO_LARGE,
+            b"record 3 column x: too large",
+        ),
+        (
+            b"x,t\n\n1,\"\xC3\xA9\"\n",
+            TEXT_BYTE,
+            b"record 2 column t: text byte",
+        ),
+    ];
+    for (bytes, want, told) in cases {
+        let fault = read_table(rt.alloc(), bytes, &columns, 2).err();
+        assert_eq!(rt; fault, Some(want));
+        let text = fault_text(rt.alloc(), want, &columns)?;
+        assert_eq!(rt; text.as_slice(), told);
+    }
+    Ok(())
+}
+
+#[test]
+fn counts_columns_and_records_from_the_header_on(rt: HostRuntime) -> Result<(), Fail> {
+    let columns = two_columns(rt.alloc(), column(rt.alloc(), b"z", Kind::Num)?)?;
+    let fault = TableFault::Value {
+        line: 4,
+        column: 1,
+        fault: ValueFault::TooLarge,
+    };
+    let text = b"x,z\n0,02139\n0,18446744073709551615\n0,18446744073709551616\n";
+    assert_eq!(rt;
+        read_table(rt.alloc(), text, &columns, 3).err(),
+        Some(fault)
+    );
+    let fault = TableFault::Rows {
+        declared: 3,
+        found: 4,
+    };
+    let text = b"x,z\n1,1\n2,2\n3,3\n4,4\n";
+    assert_eq!(rt;
+        read_table(rt.alloc(), text, &columns, 3).err(),
+        Some(fault)
+    );
     Ok(())
 }

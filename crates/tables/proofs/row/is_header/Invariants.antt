@@ -7,4 +7,4 @@ use Rattle.tables.proofs.row.is_header.Given as goal
 -- the record is the header exactly where the rest of it is the rest of the names
 abbrev pub invariant-loop-index : goal.invariant-loop-index
 invariant-loop-index l =
-    is_header (names_of l.columns) (fields_of l.record) ≡ is_header (drop l.index (names_of l.columns)) (drop l.index (fields_of l.record))
+    is_header (names_of l.columns) (fields_of l.fields) ≡ is_header (drop l.index (names_of l.columns)) (drop l.index (fields_of l.fields))

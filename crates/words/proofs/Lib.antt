@@ -1,0 +1,3 @@
+mod EndZeros
+mod TextFacts
+mod TextOrder
