@@ -13,3 +13,4 @@ pub mod NamedLine
 pub mod TextTheorem
 pub mod TextLoop
 pub mod WholeText
+pub mod PrintedText

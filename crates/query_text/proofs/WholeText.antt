@@ -1,13 +1,13 @@
 -- A text is read exactly where it is a query, and its fault is the one place.
 use Rattle.std.proofs.Common.{◌≡◌, ℕ, Bool, true, false, cond, ltb, List, length, Result, Ok, Err, refl, sym, ap, subst, ◌∙◌, ◌⊎◌, inl, inr, arith}
-use Rattle.std.specs.Prelude.{IfOk}
+use Rattle.std.specs.Prelude.{IfOk, IfErr}
 use Rattle.std.proofs.lemmas.Bool.{ltb-true, ltb-false, lt-ltb, le-ltb}
 use Rattle.query_tokens.specs.Lines.{lines_of}
 use Rattle.query_text.specs.declared.statement.Statement.{Statement}
 use Rattle.query_text.specs.declared.query.ReadFault.{ReadFault}
 use Rattle.query_text.specs.declared.query.ReadFault.TheVariants as faults
 use Rattle.query_text.specs.Text.{IsQuery, IsFaultAt}
-use Rattle.query_text.specs.ReadText.{Spot, read_lines, read_text, GivesText}
+use Rattle.query_text.specs.ReadText.{Spot, read_lines, read_text, GivesText, IsReason}
 use Rattle.query_text.proofs.ReaderLaw.{ok_is, err_is, ok_no_err}
 use Rattle.query_text.proofs.TextTheorem.{lines_found, lines_again, lines_fault, fault_lines}
 
@@ -52,10 +52,10 @@ answer_found text (Err e) h = tt
 pub answer_only : (text : List ℕ) (r : Answer) → GivesText (λ q. q) r (read_text text) → (q : List Statement) → IsQuery text q → GivesText (λ q. q) r (Ok q)
 answer_only text r h q is = subst (λ (x : Result (List Statement) Spot). GivesText (λ q. q) r x) (text_again text q is) h
 
-pub answer_fault : (text : List ℕ) (r : Answer) → GivesText (λ q. q) r (read_text text) → (line column : ℕ) → r ≡ Err (faults.Text line column) → IsFaultAt text line column
-answer_fault text r h line column e =
-    let gives = subst (λ (x : Answer). GivesText (λ q. q) x (read_text text)) e h in
-    text_fault text (line, column) gives
+pub answer_fault : (text : List ℕ) (r : Answer) → GivesText (λ q. q) r (read_text text) → IfErr r (IsReason text)
+answer_fault text (Ok q) h = tt
+answer_fault text (Err (faults.Text line column)) h = text_fault text (line, column) h
+answer_fault text (Err faults.Memory) h = tt
 
 pub answer_place : (text : List ℕ) (r : Answer) → GivesText (λ q. q) r (read_text text) → (line column : ℕ) → IsFaultAt text line column → GivesText (λ q. q) r (Err (line, column))
 answer_place text r h line column f = subst (λ (x : Result (List Statement) Spot). GivesText (λ q. q) r x) (fault_text text line column f) h

@@ -8,3 +8,4 @@ pub mod Separators
 pub mod Text
 pub mod ReadText
 pub mod Laws
+pub mod Printing

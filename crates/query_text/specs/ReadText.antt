@@ -9,7 +9,7 @@ use Rattle.query_text.specs.declared.statement.Body.{Body}
 use Rattle.query_text.specs.declared.statement.Statement.{Statement}
 use Rattle.query_text.specs.Reading.{◌>>=◌}
 use Rattle.query_text.specs.Forms.{statement_at}
-use Rattle.query_text.specs.Text.{column_of, on_line}
+use Rattle.query_text.specs.Text.{column_of, on_line, IsFaultAt}
 
 -- a line and a column
 abbrev pub Spot : Type 0
@@ -50,3 +50,16 @@ GivesFault faults.Memory read = Unit {0}
 abbrev pub GivesText : {A B : Type 0} → (A → B) → Result A ReadFault → Result B Spot → Type 0
 GivesText view (Ok x) read = read ≡ Ok (view x)
 GivesText view (Err e) read = GivesFault e read
+
+-- the answer is this query, unless memory ran out
+abbrev pub GivesQuery : {A : Type 0} → Result A ReadFault → A → Type 0
+GivesQuery answer value = GivesText (λ a. a) answer (Ok value)
+
+-- the answer is this place, unless memory ran out
+abbrev pub GivesPlace : {A : Type 0} → Result A ReadFault → ℕ → ℕ → Type 0
+GivesPlace answer line column = GivesText (λ a. a) answer (Err (line, column))
+
+-- the text stops being a query at the place that a fault names; it names none where memory ran out
+abbrev pub IsReason : List ℕ → ReadFault → Type 0
+IsReason text (faults.Text line column) = IsFaultAt text line column
+IsReason text faults.Memory = Unit {0}

@@ -1,8 +1,8 @@
-ghost use Rattle.std.specs.Prelude.{ℕ, List, IfOk, ◌≡◌, ◌+◌, ◌-◌, ◌<◌, ◌≤◌, ◌++◌, length, drop, OnOk};
+ghost use Rattle.std.specs.Prelude.{ℕ, List, IfOk, IfErr, ◌≡◌, ◌+◌, ◌-◌, ◌<◌, ◌≤◌, ◌++◌, length, drop, OnOk};
 ghost use Rattle.std.specs.Option.{option_to_list};
 ghost use Rattle.query_tokens.specs.Lines.{lines_of};
 ghost use Rattle.query_text.specs.Text.{column_by, IsQuery, IsFaultAt};
-ghost use Rattle.query_text.specs.ReadText.{line_on, read_lines, read_text, GivesText};
+ghost use Rattle.query_text.specs.ReadText.{line_on, read_lines, read_text, GivesText, GivesQuery, GivesPlace, IsReason};
 ghost use Rattle.query_text.specs.declared.statement.Statement.{Statement};
 ghost use Rattle.query_text.specs.declared.query.ReadFault.{ReadFault};
 
@@ -115,13 +115,13 @@ pub fn read_query(alloc: Global, bytes: &[u8]) -> Result<Query, ReadFault>
     ensures found { IfOk result (λ q. IsQuery bytes.now q) }
 
     // A text that is a query with these statements is read so, unless memory runs out.
-    ensures only { (q : List Statement) → IsQuery bytes.now q → GivesText (λ r. r) result (Ok q) }
+    ensures only { (q : List Statement) → IsQuery bytes.now q → GivesQuery result q }
 
-    // The text stops being a query at the place of the fault.
-    ensures fault { (line column : ℕ) → result ≡ Err (ReadFault.Text line column) → IsFaultAt bytes.now line column }
+    // A fault is the place where the text stops being a query, or want of memory.
+    ensures fault { IfErr result (IsReason bytes.now) }
 
     // Where a text stops being a query, that place is the answer, unless memory runs out.
-    ensures place { (line column : ℕ) → IsFaultAt bytes.now line column → GivesText (λ r. r) result (Err (line, column)) }
+    ensures place { (line column : ℕ) → IsFaultAt bytes.now line column → GivesPlace result line column }
 {
     read(alloc, bytes)
 }

@@ -2,7 +2,7 @@ use crate::*;
 use std::alloc::{AllocError, Global};
 use std::test::Fail;
 
-const QUERY: &[u8] = b"relation people of 1 rows 4 (ssn num, zip text)
+pub(crate) const QUERY: &[u8] = b"relation people of 1 rows 4 (ssn num, zip text)
 relation scores2 of 2 rows 3 (ssn num trust 1, score num)
 relation scores3 of 3 rows 3 (ssn num trust 1, score num)
 scores = concat scores2 scores3

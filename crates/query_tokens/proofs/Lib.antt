@@ -4,3 +4,5 @@ pub mod ScanSteps
 pub mod LineCuts
 pub mod RealTokens
 pub mod LongestFront
+pub mod ReadBack
+pub mod PrintedLine

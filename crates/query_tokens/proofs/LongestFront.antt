@@ -17,7 +17,7 @@ use Rattle.query_tokens.proofs.Digits.{list_all-front}
 use Rattle.query_tokens.proofs.ScanSteps.{found_passes, sign_length}
 use Rattle.query_tokens.proofs.RealTokens.{word_run}
 
-both_true : (a b : Bool) → (a && b) ≡ true → (a ≡ true) × (b ≡ true)
+pub both_true : (a b : Bool) → (a && b) ≡ true → (a ≡ true) × (b ≡ true)
 both_true true b e = (refl, e)
 both_true false b e = absurd cc
 
@@ -37,7 +37,7 @@ run_ends p (c ∷ text) b rest h e =
     let n : prefix_len p (c ∷ (text ++ b ∷ rest)) ≡ 1 + prefix_len p (text ++ b ∷ rest) = rw (k.0) refl in
     omega (arith, n, run_ends p text b rest k.1 e)
 
-word_all : (b : ℕ) (text : List ℕ) → (starts_word b && list_all is_word_byte text) ≡ true → list_all is_word_byte (b ∷ text) ≡ true
+pub word_all : (b : ℕ) (text : List ℕ) → (starts_word b && list_all is_word_byte text) ≡ true → list_all is_word_byte (b ∷ text) ≡ true
 word_all b text h =
     let k = both_true (starts_word b) (list_all is_word_byte text) h in
     let w : is_word_byte b ≡ true = ap (λ t. t || is_ascii_digit b) k.0 in
@@ -48,7 +48,7 @@ word_front : (b : ℕ) (bytes : List ℕ) → starts_word b ≡ true → (front 
 word_front b bytes h = rw h refl
 
 -- a digit begins no word
-digit_no_word : (b : ℕ) → is_ascii_digit b ≡ true → starts_word b ≡ false
+pub digit_no_word : (b : ℕ) → is_ascii_digit b ≡ true → starts_word b ≡ false
 digit_no_word b h =
     let k = both_true (leb 48 b) (leb b 57) h in
     let low = leb-true 48 b k.0 in
@@ -62,7 +62,7 @@ digit_front : (b : ℕ) (bytes : List ℕ) → is_ascii_digit b ≡ true → (fr
 digit_front b bytes h = rw (digit_no_word b h, h) refl
 
 -- what stands between quotes, with a quote behind it
-at_length : (inner : List ℕ) (b : ℕ) (rest : List ℕ) → slice_index (inner ++ b ∷ rest) (length inner) ≡ b
+pub at_length : (inner : List ℕ) (b : ℕ) (rest : List ℕ) → slice_index (inner ++ b ∷ rest) (length inner) ≡ b
 at_length [] b rest = refl
 at_length (c ∷ inner) b rest = at_length inner b rest
 

@@ -17,7 +17,7 @@ use Rattle.query_tokens.specs.Scan.{Front, Place, placed, is_blank, scan, front,
 pub scan_from : List ℕ → ℕ → List Place
 scan_from line i = scan (i + 1) 0 (drop i line)
 
-scan_skips : (column skipped : ℕ) (bytes : List ℕ) → scan column skipped bytes ≡ scan (column + skipped) 0 (drop skipped bytes)
+pub scan_skips : (column skipped : ℕ) (bytes : List ℕ) → scan column skipped bytes ≡ scan (column + skipped) 0 (drop skipped bytes)
 unfolding scan
 scan_skips column zero bytes = ap (λ c. scan c 0 bytes) (sym (add-zero column))
 scan_skips column (suc skipped) [] = refl

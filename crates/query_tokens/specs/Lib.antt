@@ -4,3 +4,4 @@ pub mod Scan
 pub mod Lines
 pub mod Lexemes
 pub mod Longest
+pub mod Print

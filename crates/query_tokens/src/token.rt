@@ -19,7 +19,7 @@ pub enum Lexeme<'a> {
 }
 
 impl<'a> Lexeme<'a> {
-    ghost use Rattle.query_tokens.specs.Token.{is_bad};
+    ghost use Rattle.query_tokens.specs.Token.{is_bad, is_sign};
     ghost use Rattle.query_tokens.specs.Lexemes.{token_of};
 
     /// Whether the bytes are no token.
@@ -28,6 +28,16 @@ impl<'a> Lexeme<'a> {
     {
         match *self {
             Lexeme::Bad => true,
+            _ => false,
+        }
+    }
+
+    /// Whether it is this sign.
+    pub fn is_sign(&self, sign: Sign) -> bool
+        ensures { result ≡ is_sign sign (token_of self.now) }
+    {
+        match *self {
+            Lexeme::Sign(found) => found.is(sign),
             _ => false,
         }
     }
@@ -90,10 +100,7 @@ impl<'a> Placed<'a> {
     pub fn is_sign(&self, sign: Sign) -> bool
         ensures { result ≡ is_sign sign self.now.0 }
     {
-        match self.lexeme {
-            Lexeme::Sign(found) => found.is(sign),
-            _ => false,
-        }
+        self.lexeme.is_sign(sign)
     }
 
     /// A name's bytes.

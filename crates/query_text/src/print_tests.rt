@@ -1,0 +1,228 @@
+use crate::tests::QUERY;
+use crate::*;
+use rand::rngs::StdRng;
+use rand::{RngExt, SeedableRng};
+use std::alloc::{AllocError, Global};
+use std::test::Fail;
+
+// What the query of a text is printed as.
+fn reprinted(alloc: Global, text: &[u8]) -> Result<Vec<u8>, ReadFault> {
+    let query = read_query(alloc, text)?;
+    Ok(print_query(alloc, &query)?)
+}
+
+#[test]
+fn each_form_has_one_spelling(rt: HostRuntime) -> Result<(), Fail> {
+    let spellings: [(&[u8], &[u8]); 22] = [
+        (b"", b""),
+        (b"\n \t\n# nothing\r\n", b""),
+        (b"output n to 1", b"output n to 1\n"),
+        (
+            b"\toutput  n\tto 01 2   003 # all\r\n",
+            b"output n to 1 2 3\n",
+        ),
+        (
+            b"\n\noutput b to 2\n#\noutput a to 1",
+            b"output b to 2\noutput a to 1\n",
+        ),
+        (
+            b"relation r of 2 rows 0007(x num,y text)",
+            b"relation r of 2 rows 7 (x num, y text)\n",
+        ),
+        (
+            b"relation r of 1 rows 18446744073709551615( x num trust 1 02 3 , y text trust 2 )release 1 3",
+            b"relation r of 1 rows 18446744073709551615 (x num trust 1 2 3, y text trust 2) release 1 3\n",
+        ),
+        (b"f=filter r where x==00", b"f = filter r where x == 0\n"),
+        (
+            b"f=filter r where 10<=x and y!=\"a # b\"and true==false",
+            b"f = filter r where 10 <= x and y != \"a # b\" and true == false\n",
+        ),
+        (
+            b"f=filter r where x<y and x>y and x>=\"\"at most 05 clear at 2",
+            b"f = filter r where x < y and x > y and x >= \"\" at most 5 clear at 2\n",
+        ),
+        (
+            b"f=filter r where x<y clear at 3",
+            b"f = filter r where x < y clear at 3\n",
+        ),
+        (b"s=select r(x)", b"s = select r (x)\n"),
+        (
+            b"s=select r(x,y=x,z=x*03,w=x+y,v=x-y,u=f&g,t=f|g,q=x<=y)clear at 3",
+            b"s = select r (x, y = x, z = x * 3, w = x + y, v = x - y, u = f & g, t = f | g, q = x <= y) clear at 3\n",
+        ),
+        (b"c=concat r r", b"c = concat r r\n"),
+        (b"c=concat a b c d e f g h", b"c = concat a b c d e f g h\n"),
+        (b"j=join a b on x", b"j = join a b on x\n"),
+        (
+            b"j=join a b on x,y at most 6 via 1",
+            b"j = join a b on x, y at most 6 via 1\n",
+        ),
+        (
+            b"j=join a b on x clear at 2",
+            b"j = join a b on x clear at 2\n",
+        ),
+        (b"g=group a(n=count)", b"g = group a (n = count)\n"),
+        (
+            b"g=group a by x,y(n=count,s=sum z,l=least z,m=greatest z)parts at most 4 at most 5 via 2",
+            b"g = group a by x, y (n = count, s = sum z, l = least z, m = greatest z) parts at most 4 at most 5 via 2\n",
+        ),
+        (
+            b"g=group a by x(n=count)at most 5 clear at 1",
+            b"g = group a by x (n = count) at most 5 clear at 1\n",
+        ),
+        (
+            b"d=distinct a at most 50 clear at 1",
+            b"d = distinct a at most 50 clear at 1\n",
+        ),
+    ];
+    for (text, spelling) in spellings {
+        assert_eq!(rt;
+            reprinted(rt.alloc(), text)?.as_slice(),
+            spelling,
+            "{text:?}"
+        );
+    }
+    Ok(())
+}
+
+#[test]
+fn a_printed_query_is_read_back(rt: HostRuntime) -> Result<(), Fail> {
+    let alloc = rt.alloc();
+    let query = read_query(alloc, QUERY)?;
+    let text = print_query(alloc, &query)?;
+    assert_eq!(rt; text.as_slice(), QUERY);
+    let again = read_query(alloc, &text)?;
+    assert_eq!(rt; again.statements.len(), 7);
+    assert_eq!(rt; again.statements.as_slice(), query.statements.as_slice());
+    Ok(())
+}
+
+// The forms of statements: a part in brackets may be left out, and capital letters stand for words
+// of a kind.
+const FORMS: [&[u8]; 8] = [
+    b"relation N of P rows K ( N T [ trust S ] [ , N T [ trust S ] [ , N T ] ] ) [ release S ]",
+    b"N = filter N where X C X [ and X C X [ and X C X ] ] [ at most K ] [ clear at P ]",
+    b"N = select N ( N [ = X [ O X ] ] [ , N [ = X [ O X ] ] [ , N ] ] ) [ clear at P ]",
+    b"N = concat N N [ N N [ N N ] ] [ N ]",
+    b"N = join N N on N [ , N ] [ at most K ] [ via P ]",
+    b"N = group N [ by N [ , N ] ] ( N = A N [ , N = count ] ) [ parts at most K ] [ at most K ] [ via P ]",
+    b"N = distinct N [ at most K ] [ clear at P ]",
+    b"output N to S",
+];
+
+const NAMES: [&[u8]; 5] = [
+    b"people",
+    b"_",
+    b"x1",
+    b"relations",
+    b"aaaaaaaaaaaaaaaaaaaaaaaaaaaaaaaa",
+];
+
+const NUMBERS: [&[u8]; 5] = [b"7", b"0", b"000", b"0042", b"18446744073709551615"];
+
+const OPERANDS: [&[u8]; 6] = [
+    b"true",
+    b"false",
+    b"\"\"",
+    b"\"a # (b), c\"",
+    b"score",
+    b"010",
+];
+
+// The words of a kind; none where the letter names no kind.
+fn words_of(letter: u8) -> &'static [&'static [u8]] {
+    match letter {
+        b'N' => &NAMES,
+        b'K' => &NUMBERS,
+        b'X' => &OPERANDS,
+        b'P' => &[b"1", b"2", b"003"],
+        b'S' => &[b"1", b"2", b"3", b"1 2", b"1\t03", b"2 3", b"1 2 3"],
+        b'T' => &[b"num", b"text"],
+        b'A' => &[b"sum", b"least", b"greatest"],
+        b'C' => &[b"==", b"!=", b"<", b"<=", b">", b">="],
+        b'O' => &[b"+", b"-", b"*", b"&", b"|", b"==", b">="],
+        _ => &[],
+    }
+}
+
+fn one_of<'a>(random: &mut StdRng, words: &[&'a [u8]]) -> &'a [u8] {
+    let index = random.random_range(0usize..840);
+    if words.is_empty() {
+        return b"";
+    }
+    words[index % words.len()]
+}
+
+// Adds a random statement of a form, with blanks of any kind between its words.
+fn add_statement(random: &mut StdRng, text: &mut Vec<u8>, form: &[u8]) -> Result<(), AllocError> {
+    let mut left_out: usize = 0;
+    for word in form.split(|b| *b == b' ') {
+        let first = word.first().copied().unwrap_or(b' ');
+        if first == b']' {
+            left_out = left_out.saturating_sub(1);
+        } else if left_out > 0 || (first == b'[' && random.random_range(0u8..2) == 0) {
+            left_out = left_out.saturating_add(usize::from(first == b'['));
+        } else if first != b'[' {
+            let written = one_of(random, words_of(first));
+            text.extend_from_slice(if written.is_empty() { word } else { written })?;
+            text.extend_from_slice(one_of(random, &[b" ", b"\t", b"  "]))?;
+        }
+    }
+    text.extend_from_slice(one_of(random, &[b"\n", b"\r\n", b"# \"\r\n", b"\n\n#\n"]))
+}
+
+#[test]
+fn random_queries_are_read_back(rt: HostRuntime) -> Result<(), Fail> {
+    let alloc = rt.alloc();
+    let mut random = StdRng::seed_from_u64(11);
+    for _query in 0..25 {
+        let mut text = Vec::new(alloc);
+        for form in FORMS.iter().chain(&FORMS) {
+            add_statement(&mut random, &mut text, form)?;
+        }
+        let query = read_query(alloc, &text)?;
+        assert_eq!(rt; query.statements.len(), 16);
+        let spelling = print_query(alloc, &query)?;
+        let again = read_query(alloc, &spelling)?;
+        assert_eq!(rt; again.statements.len(), 16);
+        let pairs = again
+            .statements
+            .as_slice()
+            .iter()
+            .zip(query.statements.as_slice());
+        for (place, (new, old)) in pairs.enumerate() {
+            assert_eq!(rt; new.line as usize, place + 1);
+            assert_eq!(rt; new.body, old.body, "{text:?}");
+        }
+    }
+    Ok(())
+}
+
+// Adds `s=select r(x,x,..,x)` with so many items.
+fn add_select(text: &mut Vec<u8>, count: usize) -> Result<(), AllocError> {
+    text.extend_from_slice(b"s=select r(x")?;
+    for _item in 1..count {
+        text.extend_from_slice(b",x")?;
+    }
+    text.extend_from_slice(b")\n")
+}
+
+// 64 lines of 1,024 bytes, each of which is printed as 1,532 bytes.
+#[test]
+fn the_largest_text_is_read_and_printed(rt: HostRuntime) -> Result<(), Fail> {
+    let alloc = rt.alloc();
+    let mut text = Vec::new(alloc);
+    for _statement in 0..64 {
+        add_select(&mut text, 506)?;
+    }
+    assert_eq!(rt; text.len(), 65536);
+    let query = read_query(alloc, &text)?;
+    let spelling = print_query(alloc, &query)?;
+    assert_eq!(rt; spelling.len(), 98048);
+    match read_query(alloc, &spelling) {
+        Err(fault) => assert_eq!(rt; fault, ReadFault::Text { line: 0, column: 0 }),
+        Ok(_query) => assert!(rt; false, "a text that is too long"),
+    }
+    Ok(())
+}
