@@ -1,2 +1,15 @@
 pub mod Parties
 pub mod Content
+pub mod Faults
+pub mod Names
+pub mod Used
+pub mod Kinds
+pub mod Columns
+pub mod Sizes
+pub mod Shapes
+pub mod Operators
+pub mod Build
+pub mod IsGraph
+pub mod Graph
+pub mod Statements
+pub mod Laws

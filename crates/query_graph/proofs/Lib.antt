@@ -1,0 +1,14 @@
+pub mod FirstFaults
+pub mod GraphSteps
+pub mod Invariant
+pub mod Places
+pub mod Faultless
+pub mod Different
+pub mod Widths
+pub mod Sources
+pub mod Kept
+pub mod Grown
+pub mod Builds
+pub mod Lines
+pub mod Made
+pub mod Numbered

@@ -1,0 +1,235 @@
+//! Which graph a query has.
+use crate::refusal_tests::{RELATIONS, behind};
+use crate::*;
+use query_text::{Cmp, Op, ReadFault, read_query};
+use std::alloc::Global;
+use std::test::Fail;
+use words::Kind;
+
+fn graph_of(alloc: Global, text: &[u8]) -> Result<Graph, GraphFault> {
+    match read_query(alloc, text) {
+        Ok(query) => build(alloc, &query),
+        Err(ReadFault::Text { line, column: _ }) => Err(GraphFault::Kind { line }),
+        Err(ReadFault::Memory) => Err(GraphFault::Memory),
+    }
+}
+
+// Whether a node has this name, line and number of rows, and columns of these names, where a name that begins
+// with `z` is that of a text.
+fn is_node(node: &Node, name: &[u8], line: u32, rows: u32, columns: &[&[u8]]) -> bool {
+    let mut same = node.name.bytes() == name && node.line == line && node.rows == rows;
+    same = same && node.columns.len() == columns.len();
+    for (column, name) in node.columns.as_slice().iter().zip(columns) {
+        same = same && column.name.bytes() == *name;
+        same = same && matches!(column.kind, Kind::Text) == name.starts_with(b"z");
+    }
+    same
+}
+
+fn is_relation(node: Option<&Node>, owner: u8, trusted: &[Parties]) -> bool {
+    match node {
+        Some(
+            Node {
+                shape: Operator::Relation(r),
+                ..
+            },
+        ) => { r.owner == owner && r.trusted.as_slice() == trusted && r.release == Parties::none() }
+        _ => false,
+    }
+}
+
+fn is_concat(node: Option<&Node>, sources: &[u32]) -> bool {
+    match node {
+        Some(
+            Node {
+                shape: Operator::Concat(c),
+                ..
+            },
+        ) => c.sources.as_slice() == sources,
+        _ => false,
+    }
+}
+
+fn is_join(node: Option<&Node>, left: u32, right: u32, keys: &[(u32, u32)], most: u32) -> bool {
+    match node {
+        Some(
+            Node {
+                shape: Operator::Join(j),
+                ..
+            },
+        ) => {
+            j.left == left
+                && j.right == right
+                && j.keys.as_slice() == keys
+                && j.at_most == Some(most)
+                && j.via.is_none()
+                && j.clear_at.is_none()
+        }
+        _ => false,
+    }
+}
+
+fn is_group(node: Option<&Node>, source: u32, keys: &[u32], aggregates: &[Aggregate]) -> bool {
+    match node {
+        Some(
+            Node {
+                shape: Operator::Group(g),
+                ..
+            },
+        ) => {
+            g.source == source
+                && g.keys.as_slice() == keys
+                && g.aggregates.as_slice() == aggregates
+                && g.at_most.is_none()
+                && g.parts_at_most.is_none()
+                && g.via.is_none()
+                && g.clear_at.is_none()
+        }
+        _ => false,
+    }
+}
+
+fn is_select(node: Option<&Node>, source: u32, items: &[Item]) -> bool {
+    match node {
+        Some(
+            Node {
+                shape: Operator::Select(s),
+                ..
+            },
+        ) => { s.source == source && s.items.as_slice() == items && s.clear_at.is_none() }
+        _ => false,
+    }
+}
+
+fn is_filter(node: Option<&Node>, source: u32, tests: &[Test], clear_at: u8) -> bool {
+    match node {
+        Some(
+            Node {
+                shape: Operator::Filter(f),
+                ..
+            },
+        ) => { f.source == source && f.tests.as_slice() == tests && f.clear_at == Some(clear_at) }
+        _ => false,
+    }
+}
+
+#[test]
+fn a_query_has_its_graph(rt: HostRuntime) -> Result<(), Fail> {
+    let text = b"relation people of 1 rows 4 (ssn num, zip text)
+relation scores2 of 2 rows 3 (ssn num trust 1, score num)
+relation scores3 of 3 rows 3 (ssn num trust 1, score num)
+scores = concat scores2 scores3
+joined = join people scores on ssn at most 6
+byzip = group joined by zip (total = sum score, n = count)
+output byzip to 1
+";
+    let none = Parties::none();
+    let one = none.with(1);
+    let graph = graph_of(rt.alloc(), text)?;
+    let nodes = graph.nodes();
+    let wanted: [(&[u8], u32, u32, &[&[u8]]); 6] = [
+        (b"people", 1, 4, &[b"ssn", b"zip"]),
+        (b"scores2", 2, 3, &[b"ssn", b"score"]),
+        (b"scores3", 3, 3, &[b"ssn", b"score"]),
+        (b"scores", 4, 6, &[b"ssn", b"score"]),
+        (b"joined", 5, 6, &[b"ssn", b"zip", b"score"]),
+        (b"byzip", 6, 6, &[b"zip", b"total", b"n"]),
+    ];
+    assert_eq!(rt; nodes.len(), wanted.len());
+    for (node, (name, line, rows, columns)) in nodes.iter().zip(wanted) {
+        assert!(rt; is_node(node, name, line, rows, columns));
+    }
+    assert!(rt; is_relation(nodes.get(0), 1, &[none, none]));
+    assert!(rt; is_relation(nodes.get(1), 2, &[one, none]));
+    assert!(rt; is_relation(nodes.get(2), 3, &[one, none]));
+    assert!(rt; is_concat(nodes.get(3), &[1, 2]));
+    assert!(rt; is_join(nodes.get(4), 0, 3, &[(0, 0)], 6));
+    assert!(rt;
+        is_group(
+            nodes.get(5),
+            4,
+            &[1],
+            &[Aggregate::Sum(2), Aggregate::Count]
+        )
+    );
+    let output = Output {
+        line: 7,
+        node: 5,
+        recipients: one,
+    };
+    assert!(rt; graph.outputs().as_slice() == [output].as_slice());
+    names_are_numbers();
+    Ok(())
+}
+
+#[test]
+fn items_and_tests_have_numbers(rt: HostRuntime) -> Result<(), Fail> {
+    let text = b"relation a of 1 rows 4 (k num, z text)
+s = select a (z, x = 7, y = \"02139\", f = k <= 3, g = true | false)
+t = filter s where f == g and z != \"\" clear at 2
+output t to 2
+";
+    let graph = graph_of(rt.alloc(), text)?;
+    let nodes = graph.nodes();
+    let [zero, one] = [Operand::Constant(0), Operand::Constant(1)];
+    let three = Operand::Constant(3);
+    let items = [
+        Item::Plain(Operand::Column(1)),
+        Item::Plain(Operand::Constant(7)),
+        Item::Plain(Operand::Constant(0x3032313339000000)),
+        Item::Computed {
+            left: Operand::Column(0),
+            op: Op::Compare(Cmp::Le),
+            right: three,
+        },
+        Item::Computed {
+            left: one,
+            op: Op::Or,
+            right: zero,
+        },
+    ];
+    let tests = [
+        Test {
+            left: Operand::Column(3),
+            cmp: Cmp::Eq,
+            right: Operand::Column(4),
+        },
+        Test {
+            left: Operand::Column(0),
+            cmp: Cmp::Ne,
+            right: zero,
+        },
+    ];
+    assert!(rt; is_select(nodes.get(1), 0, &items));
+    assert!(rt; is_filter(nodes.get(2), 1, &tests, 2));
+    Ok(())
+}
+
+#[test]
+fn rows_go_by_bounds(rt: HostRuntime) -> Result<(), Fail> {
+    let cases: [(&[u8], u32); 13] = [
+        (b"n = filter b where k == 1", 5),
+        (b"n = filter b where k == 1 at most 3", 3),
+        (b"n = filter b where k == 1 at most 30", 5),
+        (b"n = select b (k)", 5),
+        (b"n = concat a a", 8),
+        (b"n = join a b on k", 20),
+        (b"n = join a b on k at most 7 via 2", 7),
+        (b"n = group b by k (c = count)", 5),
+        (b"n = group b by k (c = count) parts at most 1", 3),
+        (b"n = group b by k (c = count) parts at most 2", 5),
+        (
+            b"n = group b by k (c = count) parts at most 1 at most 2 via 3",
+            2,
+        ),
+        (b"n = group b (c = count) clear at 1", 1),
+        (b"n = distinct b at most 2 clear at 3", 2),
+    ];
+    for (text, rows) in cases {
+        let text = behind(rt.alloc(), RELATIONS, text, b"\noutput n to 1 3")?;
+        let graph = graph_of(rt.alloc(), &text)?;
+        let found = graph.nodes().get(2).map_or(0, |node| node.rows);
+        assert_eq!(rt; found, rows, "{text:?}");
+    }
+    Ok(())
+}
