@@ -10,7 +10,9 @@ use Rattle.bags.proofs.Folds.{fold_op_bag}
 use Rattle.bags.proofs.Permutations.{length-SameBag}
 use Rattle.bags.proofs.Rows.{row_test, word_test}
 use Rattle.plain_operators.specs.Columns.{cut, word_at}
-use Rattle.plain_operators.specs.Operators.{Aggregate, Sum, Count, Least, Greatest, aggregated, aggregates_of, grouped_row}
+use Rattle.plain_operators.specs.declared.aggregate.Aggregate.{Aggregate}
+use Rattle.plain_operators.specs.declared.aggregate.Aggregate.TheVariants.{Sum, Count, Least, Greatest}
+use Rattle.plain_operators.specs.Operators.{aggregated, aggregates_of, grouped_row}
 use Rattle.plain_operators.specs.Regroup.{AggregatesOfAppend}
 
 pub min_assoc : (x y z : ℕ) → min (min x y) z ≡ min x (min y z)

@@ -12,7 +12,8 @@ use Rattle.bags.proofs.Permutations.{length-SameBag}
 use Rattle.bags.proofs.Images.{SameBag-through_image}
 use Rattle.bags.proofs.Rows.{row_test, word_test}
 use Rattle.plain_operators.specs.Columns.{cut, word_at}
-use Rattle.plain_operators.specs.Operators.{Aggregate, distinct_rows, grouped_row, grouped_rows, have_equal_keys, joined_row, joined_rows, joined_rows_of, key_lists, left_keys, right_keys, rows_of_items, rows_with}
+use Rattle.plain_operators.specs.declared.aggregate.Aggregate.{Aggregate}
+use Rattle.plain_operators.specs.Operators.{distinct_rows, grouped_row, grouped_rows, have_equal_keys, joined_row, joined_rows, joined_rows_of, key_lists, left_keys, right_keys, rows_of_items, rows_with}
 use Rattle.plain_operators.specs.Cuts.{AggregatesOfCuts, CutsAgree, DependsOn, GroupDependsOn, JoinDependsOn, OperatorsOfCuts, SameCut}
 use Rattle.plain_operators.proofs.Aggregates.{max_assoc, min_assoc}
 use Rattle.plain_operators.proofs.DistinctRows.{SameBag-distinct_rows}

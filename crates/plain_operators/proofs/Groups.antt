@@ -9,7 +9,8 @@ use Rattle.bags.proofs.Bags.{SameBag-map, SameBag-same, SameBag-trans}
 use Rattle.bags.proofs.Permutations.{length-SameBag, map_places}
 use Rattle.bags.proofs.Rows.{row_test}
 use Rattle.plain_operators.specs.Columns.{cut}
-use Rattle.plain_operators.specs.Operators.{Aggregate, aggregates_of, distinct_rows, grouped_row, grouped_rows, key_lists, rows_with, whole_table_rows}
+use Rattle.plain_operators.specs.declared.aggregate.Aggregate.{Aggregate}
+use Rattle.plain_operators.specs.Operators.{aggregates_of, distinct_rows, grouped_row, grouped_rows, key_lists, rows_with, whole_table_rows}
 use Rattle.plain_operators.specs.Laws.{AreBlocks, GroupOfBlocks, WholeTableIsGroup, DistinctIsGroup, block_key, block_row}
 use Rattle.plain_operators.proofs.Aggregates.{grouped_row-SameBag, aggregates_of-SameBag}
 use Rattle.plain_operators.proofs.DistinctRows.{All-distinct_rows, SameBag-distinct_rows, distinct_front, other_row}

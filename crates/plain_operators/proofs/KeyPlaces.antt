@@ -10,15 +10,11 @@ use Rattle.std.specs.Cmp.Lexicographic.{nat_list_eq_equiv}
 use Rattle.bags.specs.Bag.{row_eq}
 use Rattle.bags.proofs.Bags.{eq_itself}
 use Rattle.bags.proofs.Rows.{row_test}
+use Rattle.plain_operators.specs.Index.{GathersPlaces, place_in}
 use Rattle.plain_operators.specs.Operators.{distinct_rows}
 use Rattle.plain_operators.specs.Places.{grouped_places, places_of, places_with, row_at}
 use Rattle.plain_operators.proofs.DistinctRows.{among, among_distinct, distinct_more, other_row, same_row}
 use Rattle.plain_operators.proofs.Lists.{filter_agree_on, filter_none, map_agree, range_below}
-
--- the place of a row in a list, if it is there
-abbrev pub place_in : List (List ℕ) → List ℕ → Option ℕ
-place_in [] row = None
-place_in (x ∷ xs) row = cond (row_eq row x) (Some 0) (option_map suc (place_in xs row))
 
 -- a place that was found, or else n where the test passes
 abbrev pub place_or : Option ℕ → Bool → ℕ → Option ℕ
@@ -68,7 +64,7 @@ place_in-push (x ∷ xs) row other = by (row_eq other x) (place_in-push xs row o
     by false rest = ap (option_map suc) rest ∙ shifted (place_in xs other) (row_eq other row) (length xs)
 
 -- a row has a place exactly where it is among the others
-place_in_among : (rows : List (List ℕ)) (row : List ℕ) → is_some (place_in rows row) ≡ among rows row
+pub place_in_among : (rows : List (List ℕ)) (row : List ℕ) → is_some (place_in rows row) ≡ among rows row
 place_in_among [] row = refl
 place_in_among (x ∷ xs) row = by (row_eq row x) (place_in_among xs row)
   where
@@ -81,7 +77,7 @@ place_in_among (x ∷ xs) row = by (row_eq row x) (place_in_among xs row)
     by false rest = mapped (place_in xs row) ∙ rest
 
 -- a function that changes at one row alone changes its list at that row's place
-map_at_place : {Y : Type 0} (f g : List ℕ → Y) (row : List ℕ) → ((other : List ℕ) → other ≢ row → g other ≡ f other) → (rows : List (List ℕ)) → AreApart rows → (place : ℕ) → place_in rows row ≡ Some place
+pub map_at_place : {Y : Type 0} (f g : List ℕ → Y) (row : List ℕ) → ((other : List ℕ) → other ≢ row → g other ≡ f other) → (rows : List (List ℕ)) → AreApart rows → (place : ℕ) → place_in rows row ≡ Some place
     → (place < length rows) × (map g rows ≡ set (map f rows) place (g row)) × ((d : Y) → get_or (map f rows) place d ≡ f row)
 map_at_place f g row same [] apart place found = cc
 map_at_place {Y} f g row same (x ∷ xs) apart place found = by (λ j l. map_at_place f g row same xs apart.1 j l) (row_eq row x) refl (place_in xs row) refl found
@@ -106,7 +102,7 @@ map_at_place {Y} f g row same (x ∷ xs) apart place found = by (λ j l. map_at_
         subst Changed next at_next
 
 -- the places of one row more
-range_push : (a n : ℕ) → range_with_len a (n + 1) ≡ range_with_len a n ++ (a + n) ∷ []
+pub range_push : (a n : ℕ) → range_with_len a (n + 1) ≡ range_with_len a n ++ (a + n) ∷ []
 range_push a zero = ap (λ k. k ∷ []) (sym (add-zero a))
 range_push a (suc n) =
     let rest = range_push (a + 1) n in
@@ -130,17 +126,12 @@ none_from_among (x ∷ xs) row none =
     let parts = or_parts (row_eq row x) (among xs row) none in
     All-cons (λ other. other ≢ row) x xs (λ is. true≢false (sym ((row_test.decides row x).1 (sym is)) ∙ parts.0)) (none_from_among xs row parts.1)
 
-places_with_none : (rows : List (List ℕ)) (row : List ℕ) → among rows row ≡ false → places_with rows row ≡ []
+pub places_with_none : (rows : List (List ℕ)) (row : List ℕ) → among rows row ≡ false → places_with rows row ≡ []
 places_with_none rows row none =
     let others = none_from_among rows row none in
     let fails : All (λ place. row_eq (row_at rows place) row ≡ false) (places_of rows) = All-weaker (λ place. place < 0 + length rows) (λ place. row_eq (row_at rows place) row ≡ false)
     (λ place below. other_row (row_at rows place) row (All-get_or (λ other. other ≢ row) rows place [] (omega arith) others)) (places_of rows) (range_below 0 (length rows)) in
     filter_none (λ place. row_eq (row_at rows place) row) (places_of rows) fails
-
--- what a walk over rows has gathered: the number of each row among the distinct ones, and the places of each of these
-pub record GathersPlaces (numbers : List ℕ → Option ℕ) (groups : List (List ℕ)) (rows : List (List ℕ)) : Type 0 where
-  pub numbered : (row : List ℕ) → numbers row ≡ place_in (distinct_rows rows) row
-  pub gathered : groups ≡ grouped_places rows
 
 module _ (numbers : List ℕ → Option ℕ) (groups rows : List (List ℕ)) (row : List ℕ) (walked : GathersPlaces numbers groups rows) where
   -- the places of other rows stay
@@ -199,3 +190,18 @@ module _ (numbers : List ℕ → Option ℕ) (groups rows : List (List ℕ)) (ro
           alone : (found : Option ℕ) → place_or found false (length (distinct_rows rows)) ≡ found
           alone (Some place) = refl
           alone None = refl
+
+-- what a walk has gathered tells the places of any row
+pub places_known : (numbers : List ℕ → Option ℕ) (groups rows : List (List ℕ)) → GathersPlaces numbers groups rows → (row : List ℕ) (number : ℕ) → numbers row ≡ Some number
+    → (number < length groups) × (get_or groups number [] ≡ places_with rows row)
+places_known numbers groups rows walked row number found =
+    let kept = distinct_rows rows in
+    let at : place_in kept row ≡ Some number = sym (walked.numbered row) ∙ found in
+    let there = map_at_place (places_with rows) (places_with rows) row (λ other ne. refl) kept (AreApart-distinct_rows rows) number at in
+    let long : length groups ≡ length kept = ap length walked.gathered ∙ length-map kept (places_with rows) in
+    (omega (arith, there.0), ap (λ l. get_or l number []) walked.gathered ∙ there.2 [])
+
+pub places_missing : (numbers : List ℕ → Option ℕ) (groups rows : List (List ℕ)) → GathersPlaces numbers groups rows → (row : List ℕ) → numbers row ≡ None → places_with rows row ≡ []
+places_missing numbers groups rows walked row missing =
+    let at : place_in (distinct_rows rows) row ≡ None = sym (walked.numbered row) ∙ missing in
+    places_with_none rows row (sym (among_distinct rows row) ∙ sym (place_in_among (distinct_rows rows) row) ∙ ap is_some at)

@@ -1,10 +1,13 @@
 pub mod Aggregates
 pub mod Cuts
 pub mod DistinctRows
+pub mod GroupPlaces
 pub mod Groups
 pub mod Joins
 pub mod KeyPlaces
 pub mod Lists
+pub mod Picks
 pub mod Places
 pub mod Regroup
 pub mod Sizes
+pub mod Steps

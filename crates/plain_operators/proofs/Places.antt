@@ -9,7 +9,7 @@ use Rattle.plain_operators.specs.Places.{AggregatesAreFolds, FilterOfPlaces, Joi
 use Rattle.plain_operators.proofs.Lists.{map_map, flat_map_same, flat_map-map, map-flat_map, filter-map}
 
 -- a filter by places
-kept_places : (p : List ℕ → Bool) (rows : List (List ℕ)) → filter p rows ≡ map (row_at rows) (filter (λ place. p (row_at rows place)) (places_of rows))
+pub kept_places : (p : List ℕ → Bool) (rows : List (List ℕ)) → filter p rows ≡ map (row_at rows) (filter (λ place. p (row_at rows place)) (places_of rows))
 kept_places p rows = ap (filter p) (sym (map_places [] rows)) ∙ filter-map p (row_at rows) (places_of rows)
 
 pub filter_of_places : FilterOfPlaces

@@ -8,7 +8,9 @@ use Rattle.std.proofs.lemmas.List.Elements.{All-map, All-weaker, filter-append}
 use Rattle.bags.specs.Bag.{row_eq}
 use Rattle.bags.proofs.Permutations.{map_places}
 use Rattle.plain_operators.specs.Columns.{cut, word_at}
-use Rattle.plain_operators.specs.Operators.{Aggregate, Sum, Count, Least, Greatest, aggregated, aggregates_of, distinct_rows, grouped_row, grouped_rows, key_lists, rows_with}
+use Rattle.plain_operators.specs.declared.aggregate.Aggregate.{Aggregate}
+use Rattle.plain_operators.specs.declared.aggregate.Aggregate.TheVariants.{Sum, Count, Least, Greatest}
+use Rattle.plain_operators.specs.Operators.{aggregated, aggregates_of, distinct_rows, grouped_row, grouped_rows, key_lists, rows_with}
 use Rattle.plain_operators.specs.Regroup.{RegroupOfParts, again, again_from, combined, partial_groups}
 use Rattle.plain_operators.proofs.Aggregates.{aggregates_of_append, fold_min_below}
 use Rattle.plain_operators.proofs.DistinctRows.{All-distinct_rows, among, distinct_pieces, distinct_single}

@@ -7,7 +7,9 @@ use Rattle.std.proofs.lemmas.List.{get_or_past}
 use Rattle.std.proofs.lemmas.Bool.{cases_lt}
 use Rattle.bags.specs.Bag.{row_eq}
 use Rattle.plain_operators.specs.Columns.{cut, others, other_columns, word_at}
-use Rattle.plain_operators.specs.Operators.{Aggregate, Sum, Count, Least, Greatest, aggregated, aggregates_of, distinct_rows, grouped_row, grouped_rows, have_equal_keys, joined_row, joined_rows, joined_rows_of, key_lists, left_keys, right_keys, rows_with, whole_table_rows}
+use Rattle.plain_operators.specs.declared.aggregate.Aggregate.{Aggregate}
+use Rattle.plain_operators.specs.declared.aggregate.Aggregate.TheVariants.{Sum, Count, Least, Greatest}
+use Rattle.plain_operators.specs.Operators.{aggregated, aggregates_of, distinct_rows, grouped_row, grouped_rows, have_equal_keys, joined_row, joined_rows, joined_rows_of, key_lists, left_keys, right_keys, rows_with, whole_table_rows}
 use Rattle.plain_operators.specs.Sizes.{AllWide, IsOfWords, joined_width}
 use Rattle.plain_operators.proofs.DistinctRows.{All-distinct_rows}
 use Rattle.plain_operators.proofs.Lists.{All-each, All-flat_map, length-filter-le}

@@ -3,7 +3,9 @@ use Rattle.std.specs.Prelude.{◌≡◌, ℕ, Bool, List, ◌++◌, length, map}
 use Rattle.std.specs.List.{All}
 use Rattle.bags.specs.Bag.{SameBag}
 use Rattle.plain_operators.specs.Columns.{cut, word_at}
-use Rattle.plain_operators.specs.Operators.{Aggregate, Sum, Count, Least, Greatest, aggregated, aggregates_of, distinct_rows, grouped_rows, joined_row, joined_rows, kept_rows, left_keys, right_keys, rows_of_items}
+use Rattle.plain_operators.specs.declared.aggregate.Aggregate.{Aggregate}
+use Rattle.plain_operators.specs.declared.aggregate.Aggregate.TheVariants.{Sum, Count, Least, Greatest}
+use Rattle.plain_operators.specs.Operators.{aggregated, aggregates_of, distinct_rows, grouped_rows, joined_row, joined_rows, kept_rows, left_keys, right_keys, rows_of_items}
 use Rattle.plain_operators.specs.Sizes.{AllWide}
 
 -- a function of rows of one width gives the same for rows with the same words in these columns

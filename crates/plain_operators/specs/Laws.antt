@@ -3,7 +3,8 @@ use Rattle.std.specs.Prelude.{◌≡◌, ℕ, ◌<◌, Bool, List, [], ◌++◌,
 use Rattle.std.specs.List.{All, IsDistinct, flat_map, range_with_len}
 use Rattle.bags.specs.Bag.{SameBag, row_eq}
 use Rattle.plain_operators.specs.Columns.{cut}
-use Rattle.plain_operators.specs.Operators.{Aggregate, aggregates_of, distinct_rows, grouped_rows, joined_rows, kept_rows, rows_of_items, whole_table_rows}
+use Rattle.plain_operators.specs.declared.aggregate.Aggregate.{Aggregate}
+use Rattle.plain_operators.specs.Operators.{aggregates_of, distinct_rows, grouped_rows, joined_rows, kept_rows, rows_of_items, whole_table_rows}
 
 -- each operator gives the same bag for the same bags
 pub record OperatorsKeepBags : Type 0 where

@@ -1,7 +1,11 @@
 pub mod Columns
 pub mod Cuts
-pub mod Operators
+pub mod Index
+pub mod Items
 pub mod Laws
+pub mod Limits
+pub mod Operators
 pub mod Places
 pub mod Regroup
 pub mod Sizes
+pub mod Within

@@ -2,6 +2,8 @@
 use Rattle.std.specs.Prelude.{ℕ, ◌-◌, ◌%◌, ◌^◌, min, max, Bool, not, List, [], ◌∷◌, ◌++◌, length, map}
 use Rattle.std.specs.List.{filter, flat_map, fold, list_all, sum}
 use Rattle.bags.specs.Bag.{row_eq}
+use Rattle.plain_operators.specs.declared.aggregate.Aggregate.{Aggregate}
+use Rattle.plain_operators.specs.declared.aggregate.Aggregate.TheVariants.{Sum, Count, Least, Greatest}
 use Rattle.plain_operators.specs.Columns.{cut, others, word_at}
 
 -- filter: the rows for which each test holds, in order
@@ -24,8 +26,11 @@ abbrev pub have_equal_keys : List (ℕ × ℕ) → List ℕ → List ℕ → Boo
 have_equal_keys keys left right = row_eq (cut (left_keys keys) left) (cut (right_keys keys) right)
 
 -- the keys, then the left's others, then the right's others
+abbrev pub joined_words : List ℕ → List ℕ → List ℕ → List ℕ → List ℕ
+joined_words lefts rights left right = cut lefts left ++ (others lefts left ++ others rights right)
+
 abbrev pub joined_row : List (ℕ × ℕ) → List ℕ → List ℕ → List ℕ
-joined_row keys left right = cut (left_keys keys) left ++ (others (left_keys keys) left ++ others (right_keys keys) right)
+joined_row keys left right = joined_words (left_keys keys) (right_keys keys) left right
 
 -- the joined rows of one left row, for each right row with equal keys
 abbrev pub joined_rows_of : List (ℕ × ℕ) → List (List ℕ) → List ℕ → List (List ℕ)
@@ -39,13 +44,6 @@ joined_rows keys lefts rights = flat_map (joined_rows_of keys rights) lefts
 abbrev pub distinct_rows : List (List ℕ) → List (List ℕ)
 distinct_rows [] = []
 distinct_rows (row ∷ rows) = row ∷ filter (λ other. not (row_eq other row)) (distinct_rows rows)
-
--- what a group says of the rows with one key
-pub data Aggregate : Type 0 where
-  Sum : ℕ → Aggregate
-  Count : Aggregate
-  Least : ℕ → Aggregate
-  Greatest : ℕ → Aggregate
 
 -- an aggregate over rows: the sum of a column modulo 2^64, how many rows, the least and the greatest word of a column
 abbrev pub aggregated : Aggregate → List (List ℕ) → ℕ

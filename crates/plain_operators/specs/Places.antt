@@ -1,9 +1,10 @@
 -- Filter and join by the places of rows, and aggregates as folds over words.
 use Rattle.std.specs.Prelude.{◌≡◌, ℕ, ◌+◌, ◌%◌, ◌^◌, ◌<◌, Bool, List, [], length, map, slice_index_or}
-use Rattle.std.specs.List.{filter, flat_map, fold, list_all, range_with_len}
+use Rattle.std.specs.List.{All, filter, flat_map, fold, list_all, range_with_len}
 use Rattle.bags.specs.Bag.{row_eq}
-use Rattle.plain_operators.specs.Columns.{word_at}
-use Rattle.plain_operators.specs.Operators.{Sum, Count, aggregated, distinct_rows, have_equal_keys, joined_row, joined_rows, kept_rows}
+use Rattle.plain_operators.specs.Columns.{cut, word_at}
+use Rattle.plain_operators.specs.declared.aggregate.Aggregate.TheVariants.{Sum, Count}
+use Rattle.plain_operators.specs.Operators.{aggregated, distinct_rows, have_equal_keys, joined_row, joined_rows, joined_words, kept_rows}
 
 -- the places of a list of rows, from 0
 abbrev pub places_of : List (List ℕ) → List ℕ
@@ -12,6 +13,11 @@ places_of rows = range_with_len 0 (length rows)
 -- the row at a place
 abbrev pub row_at : List (List ℕ) → ℕ → List ℕ
 row_at rows place = slice_index_or rows place []
+
+-- places of so many rows, of which there is one at least
+pub record ArePlaces (count : ℕ) (places : List ℕ) : Type 0 where
+  pub filled : 0 < length places
+  pub within : All (λ place. place < count) places
 
 -- a filter is the rows at the places that pass, in order
 abbrev pub FilterOfPlaces : Type 0
@@ -44,3 +50,11 @@ add_words a b = (a + b) % 2 ^ 64
 pub record AggregatesAreFolds : Type 0 where
   pub sums : (column : ℕ) (rows : List (List ℕ)) → aggregated (Sum column) rows ≡ fold add_words 0 (map (word_at column) rows)
   pub counts : (rows : List (List ℕ)) → length rows < 2 ^ 64 → aggregated Count rows ≡ fold add_words 0 (map (λ row. 1) rows)
+
+-- the joined rows of a left row and the right rows at these places
+abbrev pub joined_rows_at : List ℕ → List ℕ → List (List ℕ) → List ℕ → List ℕ → List (List ℕ)
+joined_rows_at lefts rights rows left places = map (λ place. joined_words lefts rights left (row_at rows place)) places
+
+-- the joined rows of a left row and the right rows that have its keys, found among the cut right rows
+abbrev pub joined_rows_found : List ℕ → List ℕ → List (List ℕ) → List (List ℕ) → List ℕ → List (List ℕ)
+joined_rows_found lefts rights rows cuts left = joined_rows_at lefts rights rows left (places_with cuts (cut lefts left))

@@ -1,7 +1,9 @@
 -- A group in two steps: each part of the rows by itself, and then the partial groups together.
 use Rattle.std.specs.Prelude.{◌≡◌, ℕ, ◌+◌, ◌%◌, ◌^◌, ◌<◌, min, max, List, [], ◌∷◌, ◌++◌, length}
 use Rattle.std.specs.List.{flat_map, range_with_len}
-use Rattle.plain_operators.specs.Operators.{Aggregate, Sum, Count, Least, Greatest, aggregated, grouped_rows}
+use Rattle.plain_operators.specs.declared.aggregate.Aggregate.{Aggregate}
+use Rattle.plain_operators.specs.declared.aggregate.Aggregate.TheVariants.{Sum, Count, Least, Greatest}
+use Rattle.plain_operators.specs.Operators.{aggregated, grouped_rows}
 
 -- an aggregate of two lists of rows from that of each
 abbrev pub combined : Aggregate → ℕ → ℕ → ℕ

@@ -2,7 +2,8 @@
 use Rattle.std.specs.Prelude.{◌≡◌, ℕ, ◌+◌, ◌*◌, ◌^◌, ◌<◌, ◌≤◌, Bool, List, length}
 use Rattle.std.specs.List.{All}
 use Rattle.plain_operators.specs.Columns.{other_columns}
-use Rattle.plain_operators.specs.Operators.{Aggregate, distinct_rows, grouped_rows, joined_rows, kept_rows, left_keys, right_keys, rows_of_items, whole_table_rows}
+use Rattle.plain_operators.specs.declared.aggregate.Aggregate.{Aggregate}
+use Rattle.plain_operators.specs.Operators.{distinct_rows, grouped_rows, joined_rows, kept_rows, left_keys, right_keys, rows_of_items, whole_table_rows}
 
 -- each row has so many words
 abbrev pub AllWide : ℕ → List (List ℕ) → Type 0

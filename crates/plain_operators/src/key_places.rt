@@ -3,6 +3,72 @@ ghost use Rattle.plain_operators.specs.Places as plain;
 
 use std::alloc::{AllocError, Global};
 use std::collections::BTreeMap;
+use std::marker::Model;
+
+// Rows by their words: the places of each distinct row, and its number among these. Seen as the rows.
+#[derive(Drop)]
+pub(crate) struct RowIndex<'a> {
+    rows: &'a [&'a [u64]],
+    numbers: BTreeMap<&'a [u64], usize>,
+    groups: Vec<Vec<usize>>,
+}
+
+impl<'a> Model for RowIndex<'a> {
+    ghost use Rattle.std.specs.Prelude.{List, ℕ};
+    ghost use Rattle.plain_operators.specs.Index.{indexed, IsIndex};
+
+    ghost Value = { List (List ℕ) };
+
+    ghost view = { indexed };
+
+    ghost invariant = { IsIndex };
+}
+
+impl<'a> RowIndex<'a> {
+    // The index of these rows, by a look-up for each row in a map of the distinct ones.
+    pub(crate) fn new(alloc: Global, rows: &'a [&'a [u64]]) -> Result<RowIndex<'a>, AllocError>
+        ensures { IfOk result (λ index. index ≡ map (λ row. row.now) rows.now) }
+    {
+        let mut numbers = BTreeMap::new(alloc);
+        let mut groups = Vec::new(alloc);
+        for (place, row) in rows.iter().enumerate() {
+            match numbers.get(*row).copied() {
+                Some(number) => add_place(&mut groups, number, place)?,
+                None => {
+                    numbers.insert(*row, groups.len())?;
+                    groups.push(one_place(alloc, place)?)?;
+                }
+            }
+        }
+        Ok(RowIndex {
+            rows,
+            numbers,
+            groups,
+        })
+    }
+
+    // The places of the rows that are this one.
+    pub(crate) fn places(&self, row: &[u64]) -> &[usize]
+        ensures { result.now ≡ plain.places_with self.now row.now }
+    {
+        match self.numbers.get(row).copied() {
+            Some(number) => self.groups[number].as_slice(),
+            None => &[],
+        }
+    }
+
+    // The places of each distinct row.
+    fn into_groups(self) -> Vec<Vec<usize>>
+        ensures { map (λ places. places.items) result.items ≡ plain.grouped_places self.entry }
+    {
+        let RowIndex {
+            rows: _,
+            numbers: _,
+            groups,
+        } = self;
+        groups
+    }
+}
 
 /// The places, from 0, of each distinct row: one list for each, in the order of the first places.
 ///
@@ -11,18 +77,7 @@ use std::collections::BTreeMap;
 pub fn grouped_places(alloc: Global, rows: &[&[u64]]) -> Result<Vec<Vec<usize>>, AllocError>
     ensures { IfOk result (λ groups. map (λ places. places.items) groups.items ≡ plain.grouped_places (map (λ row. row.now) rows.now)) }
 {
-    let mut numbers = BTreeMap::new(alloc);
-    let mut groups = Vec::new(alloc);
-    for (place, row) in rows.iter().enumerate() {
-        match numbers.get(*row).copied() {
-            Some(number) => add_place(&mut groups, number, place)?,
-            None => {
-                numbers.insert(*row, groups.len())?;
-                groups.push(one_place(alloc, place)?)?;
-            }
-        }
-    }
-    Ok(groups)
+    Ok(RowIndex::new(alloc, rows)?.into_groups())
 }
 
 // One more place in a group.

@@ -5,9 +5,10 @@ use Rattle.std.specs.BTreeMap.{BTreeMap, get_by}
 use Rattle.std.proofs.lemmas.List.{length-map, length-take-le, map_more, map_push}
 use Rattle.std.proofs.lemmas.Map.Text.{is_eq-slice_cmp}
 use Rattle.bags.specs.Bag.{row_eq}
-use Rattle.plain_operators.proofs.KeyPlaces.{GathersPlaces, gathers_known, gathers_new}
-use Rattle.plain_operators.proofs.key_places.grouped_places.Goals as goal
-use Rattle.plain_operators.proofs.key_places.grouped_places.Goals.{in-Some+in_ok-add_place-in-Some, in-None+in_ok-insert-in-None+in_ok-one_place-in-None+in_ok-push-in-None}
+use Rattle.plain_operators.specs.Index.{GathersPlaces}
+use Rattle.plain_operators.proofs.KeyPlaces.{gathers_known, gathers_new}
+use Rattle.plain_operators.proofs.key_places.RowIndex.new.Goals as goal
+use Rattle.plain_operators.proofs.key_places.RowIndex.new.Goals.{in-Some+in_ok-add_place-in-Some, in-None+in_ok-insert-in-None+in_ok-one_place-in-None+in_ok-push-in-None}
 
 pub add_place-requires : goal.add_place-requires
 add_place-requires c =

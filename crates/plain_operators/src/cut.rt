@@ -1,0 +1,66 @@
+//! Rows cut to columns.
+
+ghost use Rattle.std.specs.Prelude.{◌≡◌, ◌++◌, ◌==◌, length, map, IfOk, OnOk};
+ghost use Rattle.std.specs.List.{All, list_any};
+ghost use Rattle.plain_operators.specs.Columns as plain;
+ghost use Rattle.plain_operators.specs.Within.{HasColumns};
+
+use std::alloc::{AllocError, Global};
+
+// Adds the words of a row in these columns.
+pub(crate) fn add_cut(columns: &[u32], row: &[u64], words: &mut Vec<u64>) -> Result<(), AllocError>
+    requires { HasColumns columns.now (length row.now) }
+    ensures { OnOk result (words.new.items ≡ words.old.items ++ plain.cut columns.now row.now) }
+{
+    for column in columns {
+        words.push(row[*column as usize])?;
+    }
+    Ok(())
+}
+
+// Adds the words of a row in its other columns.
+pub(crate) fn add_others(keys: &[u32], row: &[u64], words: &mut Vec<u64>) -> Result<(), AllocError>
+    ensures { OnOk result (words.new.items ≡ words.old.items ++ plain.others keys.now row.now) }
+{
+    for (column, word) in row.iter().enumerate() {
+        if !is_key(keys, column) {
+            words.push(*word)?;
+        }
+    }
+    Ok(())
+}
+
+fn is_key(keys: &[u32], column: usize) -> bool
+    ensures { result ≡ list_any (λ key. key == column) keys.now }
+{
+    keys.iter().any(|key| *key as usize == column)
+}
+
+// Each row cut to these columns.
+pub(crate) fn cut_rows(
+    alloc: Global,
+    columns: &[u32],
+    rows: &[&[u64]],
+) -> Result<Vec<Vec<u64>>, AllocError>
+    requires { All (λ row. HasColumns columns.now (length row.now)) rows.now }
+    ensures { IfOk result (λ made. map (λ row. row.items) made.items ≡ map (plain.cut columns.now) (map (λ row. row.now) rows.now)) }
+{
+    let mut made = Vec::new(alloc);
+    for row in rows {
+        let mut words = Vec::new(alloc);
+        add_cut(columns, row, &mut words)?;
+        made.push(words)?;
+    }
+    Ok(made)
+}
+
+// The rows, lent.
+pub(crate) fn lend(alloc: Global, rows: &[Vec<u64>]) -> Result<Vec<&[u64]>, AllocError>
+    ensures { IfOk result (λ lent. map (λ row. row.now) lent.items ≡ map (λ row. row.items) rows.now) }
+{
+    let mut lent = Vec::new(alloc);
+    for row in rows {
+        lent.push(row.as_slice())?;
+    }
+    Ok(lent)
+}

@@ -1,0 +1,169 @@
+ghost use Rattle.std.specs.Prelude.{◌≡◌, ◌<◌, ◌++◌, length, map, IfOk, OnOk};
+ghost use Rattle.std.specs.List.{All};
+ghost use Rattle.plain_operators.specs.Laws.{block_row};
+ghost use Rattle.plain_operators.specs.Operators as plain;
+ghost use Rattle.plain_operators.specs.Places.{ArePlaces, row_at};
+ghost use Rattle.plain_operators.specs.Within.{HasColumns, IsAggregateOf};
+
+use crate::aggregate::Aggregate;
+use crate::cut::{add_cut, cut_rows, lend};
+use crate::key_places::grouped_places;
+use std::alloc::{AllocError, Global};
+
+/// One row for each list of keys that occurs, in the order of the first rows: the keys, then the aggregates over the
+/// rows with these keys. Takes n log n comparisons of keys.
+pub fn grouped_rows(
+    alloc: Global,
+    keys: &[u32],
+    aggregates: &[Aggregate],
+    rows: &[&[u64]],
+) -> Result<Vec<Vec<u64>>, AllocError>
+    requires of_keys { All (λ row. HasColumns keys.now (length row.now)) rows.now }
+    requires of_aggregates { All (λ row. All (IsAggregateOf (length row.now)) aggregates.now) rows.now }
+    ensures { IfOk result (λ made. map (λ row. row.items) made.items ≡ plain.grouped_rows keys.now aggregates.now (map (λ row. row.now) rows.now)) }
+{
+    let cut = cut_rows(alloc, keys, rows)?;
+    let lent = lend(alloc, &cut)?;
+    let groups = grouped_places(alloc, &lent)?;
+    rows_of_groups(alloc, keys, aggregates, rows, &groups)
+}
+
+// One row for each group, by the places of its rows.
+fn rows_of_groups(
+    alloc: Global,
+    keys: &[u32],
+    aggregates: &[Aggregate],
+    rows: &[&[u64]],
+    groups: &[Vec<usize>],
+) -> Result<Vec<Vec<u64>>, AllocError>
+    requires of_keys { All (λ row. HasColumns keys.now (length row.now)) rows.now }
+    requires of_aggregates { All (λ row. All (IsAggregateOf (length row.now)) aggregates.now) rows.now }
+    requires of_rows { All (λ places. ArePlaces (length rows.now) places.items) groups.now }
+    ensures { IfOk result (λ made. map (λ row. row.items) made.items
+        ≡ map (λ places. block_row keys.now aggregates.now (map (row_at (map (λ row. row.now) rows.now)) places.items)) groups.now) }
+{
+    let mut made = Vec::new(alloc);
+    for places in groups {
+        made.push(row_of_group(alloc, keys, aggregates, rows, places)?)?;
+    }
+    Ok(made)
+}
+
+// The row of a group, by the places of its rows.
+fn row_of_group(
+    alloc: Global,
+    keys: &[u32],
+    aggregates: &[Aggregate],
+    rows: &[&[u64]],
+    places: &[usize],
+) -> Result<Vec<u64>, AllocError>
+    requires of_keys { All (λ row. HasColumns keys.now (length row.now)) rows.now }
+    requires of_aggregates { All (λ row. All (IsAggregateOf (length row.now)) aggregates.now) rows.now }
+    requires of_rows { ArePlaces (length rows.now) places.now }
+    ensures { IfOk result (λ words. words.items ≡ block_row keys.now aggregates.now (map (row_at (map (λ row. row.now) rows.now)) places.now)) }
+{
+    let block = rows_at(alloc, rows, places)?;
+    row_of_block(alloc, keys, aggregates, &block)
+}
+
+/// The aggregates over all rows, as one row, and no row from none.
+pub fn whole_table_rows(
+    alloc: Global,
+    aggregates: &[Aggregate],
+    rows: &[&[u64]],
+) -> Result<Vec<Vec<u64>>, AllocError>
+    requires { All (λ row. All (IsAggregateOf (length row.now)) aggregates.now) rows.now }
+    ensures { IfOk result (λ made. map (λ row. row.items) made.items ≡ plain.whole_table_rows aggregates.now (map (λ row. row.now) rows.now)) }
+{
+    let mut made = Vec::new(alloc);
+    if !rows.is_empty() {
+        let mut words = Vec::new(alloc);
+        add_aggregates(aggregates, rows, &mut words)?;
+        made.push(words)?;
+    }
+    Ok(made)
+}
+
+// The rows at these places.
+fn rows_at<'a>(
+    alloc: Global,
+    rows: &[&'a [u64]],
+    places: &[usize],
+) -> Result<Vec<&'a [u64]>, AllocError>
+    requires { All (λ place. place < length rows.now) places.now }
+    ensures { IfOk result (λ block. map (λ row. row.now) block.items ≡ map (row_at (map (λ row. row.now) rows.now)) places.now) }
+{
+    let mut block = Vec::new(alloc);
+    for place in places {
+        block.push(rows[*place])?;
+    }
+    Ok(block)
+}
+
+// The row of a block of rows with equal keys.
+fn row_of_block(
+    alloc: Global,
+    keys: &[u32],
+    aggregates: &[Aggregate],
+    block: &[&[u64]],
+) -> Result<Vec<u64>, AllocError>
+    requires filled { 0 < length block.now }
+    requires of_keys { All (λ row. HasColumns keys.now (length row.now)) block.now }
+    requires of_aggregates { All (λ row. All (IsAggregateOf (length row.now)) aggregates.now) block.now }
+    ensures { IfOk result (λ words. words.items ≡ block_row keys.now aggregates.now (map (λ row. row.now) block.now)) }
+{
+    let mut words = Vec::new(alloc);
+    add_cut(keys, block[0], &mut words)?;
+    add_aggregates(aggregates, block, &mut words)?;
+    Ok(words)
+}
+
+// Adds the aggregates over rows.
+fn add_aggregates(
+    aggregates: &[Aggregate],
+    rows: &[&[u64]],
+    words: &mut Vec<u64>,
+) -> Result<(), AllocError>
+    requires { All (λ row. All (IsAggregateOf (length row.now)) aggregates.now) rows.now }
+    ensures { OnOk result (words.new.items ≡ words.old.items ++ plain.aggregates_of aggregates.now (map (λ row. row.now) rows.now)) }
+{
+    for aggregate in aggregates {
+        words.push(aggregate.over(rows))?;
+    }
+    Ok(())
+}
+
+#[cfg(test)]
+mod tests {
+    use super::*;
+    use std::test::Fail;
+
+    const ALL: [Aggregate; 4] = [
+        Aggregate::Sum(1),
+        Aggregate::Count,
+        Aggregate::Least(1),
+        Aggregate::Greatest(1),
+    ];
+
+    #[test]
+    fn groups_by_keys_in_the_order_of_first_rows(rt: HostRuntime) -> Result<(), Fail> {
+        let rows: [&[u64]; 4] = [&[7, 18446744073709551615], &[5, 4], &[7, 2], &[7, 2]];
+        let want: [&[u64]; 2] = [&[7, 3, 3, 2, 18446744073709551615], &[5, 4, 1, 4, 4]];
+        let made = grouped_rows(rt.alloc(), &[0], &ALL, &rows)?;
+        assert_eq!(rt; made.len(), want.len());
+        for (row, wanted) in made.iter().zip(want) {
+            assert!(rt; row.as_slice() == wanted);
+        }
+        Ok(())
+    }
+
+    #[test]
+    fn gives_one_row_of_a_whole_table_and_none_of_no_row(rt: HostRuntime) -> Result<(), Fail> {
+        let rows: [&[u64]; 2] = [&[0, 18446744073709551615], &[0, 2]];
+        let made = whole_table_rows(rt.alloc(), &ALL, &rows)?;
+        assert_eq!(rt; made.len(), 1);
+        assert!(rt; made[0].as_slice() == [1, 2, 2, 18446744073709551615].as_slice());
+        assert!(rt; whole_table_rows(rt.alloc(), &ALL, &[])?.is_empty());
+        Ok(())
+    }
+}
