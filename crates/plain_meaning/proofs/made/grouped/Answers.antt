@@ -1,0 +1,39 @@
+use Rattle.std.proofs.Common.{◌≡◌, ◌+◌, ℕ, List, Bor, Vec, Global, map, length, subst, sym, ap, ◌∙◌}
+use Rattle.std.specs.List.{All}
+use Rattle.std.proofs.lemmas.List.{length-map}
+use Rattle.std.proofs.lemmas.List.Elements.{All-same}
+use Rattle.plain_operators.specs.Within.{HasColumns, IsAggregateOf}
+use Rattle.plain_meaning.specs.Convert.{aggregate_of}
+use Rattle.plain_meaning.specs.Fits.{width_at, widths_of}
+use Rattle.plain_meaning.specs.Meaning.{group_rows, rows_of}
+use Rattle.plain_meaning.proofs.Widths.{fits_rows, group_rows-AllWide, wide_rows}
+use Rattle.plain_meaning.proofs.made.grouped.Goals as goal
+
+pub group_rows-requires-clause-of_keys : goal.group_rows-requires-clause-of_keys
+group_rows-requires-clause-of_keys c =
+    let now = λ (row : Bor (List ℕ)). row.now in
+    let keys = c.as_slice-2.result.now in
+    let w = width_at (widths_of c.args.earlier.now) c.args.group.now.source in
+    fits_rows (HasColumns keys) now c.deref-2.result.now (rows_of (map (λ t. t.rows) c.args.earlier.now) c.args.group.now.source) w
+    (ap (map now) c.deref-2.ensures.value ∙ c.in_ok-rows.ensures.rows) c.source_rows.ensures.wide (subst (λ k. HasColumns k w) (sym c.as_slice-2.ensures) c.requires.keys)
+
+pub group_rows-requires-clause-of_aggregates : goal.group_rows-requires-clause-of_aggregates
+group_rows-requires-clause-of_aggregates c =
+    let now = λ (row : Bor (List ℕ)). row.now in
+    let aggregates = c.deref.result.now in
+    let w = width_at (widths_of c.args.earlier.now) c.args.group.now.source in
+    let e : aggregates ≡ map aggregate_of c.args.group.now.aggregates = c.deref.ensures.value ∙ c.in_ok-aggregates.ensures ∙ ap (map aggregate_of) c.as_slice.ensures in
+    fits_rows (λ n. All (IsAggregateOf n) aggregates) now c.deref-2.result.now (rows_of (map (λ t. t.rows) c.args.earlier.now) c.args.group.now.source) w
+    (ap (map now) c.deref-2.ensures.value ∙ c.in_ok-rows.ensures.rows) c.source_rows.ensures.wide (All-same (IsAggregateOf w) aggregates (map aggregate_of c.args.group.now.aggregates) e c.requires.aggregates)
+
+pub table_of_made-requires : goal.table_of_made-requires
+table_of_made-requires c =
+    let now = λ (row : Bor (List ℕ)). row.now in
+    let listed = λ (row : Vec ℕ Global). row.items in
+    let keys = c.as_slice-2.result.now in
+    let aggregates = c.deref.result.now in
+    let rows = map now c.deref-2.result.now in
+    let e : aggregates ≡ map aggregate_of c.args.group.now.aggregates = c.deref.ensures.value ∙ c.in_ok-aggregates.ensures ∙ ap (map aggregate_of) c.as_slice.ensures in
+    let many : length aggregates ≡ length c.args.group.now.aggregates = ap length e ∙ length-map c.args.group.now.aggregates aggregate_of in
+    let long : length keys + length aggregates ≡ length c.args.columns.items = (λ i. length (c.as_slice-2.ensures i) + many i) ∙ c.requires.same in
+    wide_rows listed c.deref-3.result.now (group_rows keys aggregates rows) (length keys + length aggregates) (length c.args.columns.items) (ap (map listed) c.deref-3.ensures.value ∙ c.in_ok-made.ensures) (group_rows-AllWide keys aggregates rows) long

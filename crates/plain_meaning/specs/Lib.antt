@@ -1,0 +1,4 @@
+pub mod Convert
+pub mod Fits
+pub mod Meaning
+pub mod Plain

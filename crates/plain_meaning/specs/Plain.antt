@@ -1,0 +1,41 @@
+-- The tables of a graph's nodes up to the first with more rows than its bound.
+use Rattle.std.specs.Prelude.{◌≡◌, ℕ, ◌+◌, ◌<◌, nat_lt, Bool, true, false, List, Option, Some, None, length, map, take, slice_get}
+use Rattle.std.specs.Option.{option_map}
+use Rattle.query_graph.specs.declared.node.Node.{Node}
+use Rattle.query_graph.specs.declared.operator.Operator.{Operator}
+use Rattle.query_graph.specs.declared.operator.Operator.TheVariants.{Relation, Filter, Select, Concat, Join, Group, Distinct}
+use Rattle.tables.specs.Content as table
+use Rattle.plain_operators.specs.Limits.{first_of}
+use Rattle.plain_meaning.specs.Meaning.{meanings, rows_of}
+
+-- the bound `at most` of a node
+abbrev pub bound_of : Operator → Option ℕ
+bound_of (Relation r) = None
+bound_of (Filter f) = f.at_most
+bound_of (Select s) = None
+bound_of (Concat c) = None
+bound_of (Join j) = j.at_most
+bound_of (Group g) = g.at_most
+bound_of (Distinct d) = d.at_most
+
+-- whether there are more rows than a bound lets through
+abbrev pub is_over : Option ℕ → List (List ℕ) → Bool
+is_over None rows = false
+is_over (Some k) rows = nat_lt k (length rows)
+
+-- the rows of a node as they are listed: of a join no more than one above its bound
+abbrev pub listed : Operator → List (List ℕ) → List (List ℕ)
+listed (Join j) rows = first_of (option_map (λ k. k + 1) j.at_most) rows
+listed _ rows = rows
+
+-- how the tables end: with all nodes, or before the one that is over its bound
+abbrev pub Ends : List Node → List (List (List ℕ)) → ℕ → Option ℕ → Type 0
+Ends nodes rows count None = count ≡ length nodes
+Ends nodes rows count (Some over) = (over ≡ count) × ((node : Node) × (slice_get nodes over ≡ Some node) × (is_over (bound_of node.shape) (rows_of rows over) ≡ true))
+
+-- the tables of a graph's first nodes, each within its bound, and the node that ends them, if one does
+pub record IsPlain (nodes : List Node) (world : List (List (List ℕ))) (tables : List table.Content) (over : Option ℕ) : Type 0 where
+  pub rows : map (λ t. t.rows) tables ≡ take (length tables) (meanings nodes world)
+  pub columns : map (λ t. t.columns) tables ≡ map (λ n. n.columns) (take (length tables) nodes)
+  pub within : (i : ℕ) (node : Node) → i < length tables → slice_get nodes i ≡ Some node → is_over (bound_of node.shape) (rows_of (meanings nodes world) i) ≡ false
+  pub ends : Ends nodes (meanings nodes world) (length tables) over

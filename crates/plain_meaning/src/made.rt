@@ -1,0 +1,133 @@
+//! The table of each operator over earlier tables.
+#![tactic(auto)]
+
+ghost use Rattle.std.specs.Prelude.{◌≡◌, ◌+◌, [], length, map, slice_get, Some, IfOk};
+ghost use Rattle.std.specs.List.{All};
+ghost use Rattle.plain_operators.specs.Within.{HasColumns, IsAggregateOf};
+ghost use Rattle.plain_meaning.specs.Convert.{aggregate_of};
+ghost use Rattle.plain_meaning.specs.Fits.{FitsConcat, FitsDistinct, FitsFilter, FitsGroup, FitsJoin, FitsSelect, widths_of};
+ghost use Rattle.plain_meaning.specs.Meaning.{group_rows, node_rows};
+ghost use Rattle.plain_meaning.specs.Plain.{listed};
+
+use crate::convert::{aggregates_of, items_of, tests_of};
+use crate::rows::{add_source, source_rows, table_of_lent, table_of_made};
+use plain_operators::{
+    Aggregate, distinct_rows, grouped_rows, joined_rows, kept_rows, rows_of_items, whole_table_rows,
+};
+use query_graph::{Concat, Distinct, Filter, Group, Join, Operator, Select};
+use std::alloc::{AllocError, Global};
+use tables::Table;
+use words::Column;
+
+pub(crate) fn filtered(
+    alloc: Global,
+    columns: Vec<Column>,
+    filter: &Filter,
+    earlier: &[Table],
+) -> Result<Table, AllocError>
+    requires { FitsFilter (widths_of earlier.now) (length columns.items) filter.now }
+    ensures { IfOk result (λ table. table ≡ record { columns = columns.items; rows = node_rows (Operator.Filter filter.now) [] (map (λ t. t.rows) earlier.now) }) }
+{
+    let tests = tests_of(alloc, filter.tests.as_slice())?;
+    let rows = source_rows(alloc, earlier, filter.source)?;
+    let kept = kept_rows(alloc, &tests, &rows)?;
+    table_of_lent(alloc, columns, &kept)
+}
+
+pub(crate) fn selected(
+    alloc: Global,
+    columns: Vec<Column>,
+    select: &Select,
+    earlier: &[Table],
+) -> Result<Table, AllocError>
+    requires { FitsSelect (widths_of earlier.now) (length columns.items) select.now }
+    ensures { IfOk result (λ table. table ≡ record { columns = columns.items; rows = node_rows (Operator.Select select.now) [] (map (λ t. t.rows) earlier.now) }) }
+{
+    let items = items_of(alloc, select.items.as_slice())?;
+    let rows = source_rows(alloc, earlier, select.source)?;
+    let made = rows_of_items(alloc, &items, &rows)?;
+    table_of_made(alloc, columns, &made)
+}
+
+pub(crate) fn concatenated(
+    alloc: Global,
+    columns: Vec<Column>,
+    concat: &Concat,
+    earlier: &[Table],
+) -> Result<Table, AllocError>
+    requires { FitsConcat (widths_of earlier.now) (length columns.items) concat.now }
+    ensures { IfOk result (λ table. table ≡ record { columns = columns.items; rows = node_rows (Operator.Concat concat.now) [] (map (λ t. t.rows) earlier.now) }) }
+{
+    let mut rows = Vec::new(alloc);
+    for source in concat.sources.as_slice() {
+        add_source(earlier, *source, &mut rows)?;
+    }
+    table_of_lent(alloc, columns, &rows)
+}
+
+// Lists no more than one row above the bound.
+pub(crate) fn joined(
+    alloc: Global,
+    columns: Vec<Column>,
+    join: &Join,
+    earlier: &[Table],
+) -> Result<Table, AllocError>
+    requires { FitsJoin (widths_of earlier.now) (length columns.items) join.now }
+    ensures { IfOk result (λ table. table ≡ record {
+      columns = columns.items;
+      rows = listed (Operator.Join join.now) (node_rows (Operator.Join join.now) [] (map (λ t. t.rows) earlier.now));
+    }) }
+{
+    let lefts = source_rows(alloc, earlier, join.left)?;
+    let rights = source_rows(alloc, earlier, join.right)?;
+    let limit = join.at_most.map(|bound| bound as usize + 1);
+    let made = joined_rows(alloc, join.keys.as_slice(), &lefts, &rights, limit)?;
+    table_of_made(alloc, columns, &made)
+}
+
+pub(crate) fn grouped(
+    alloc: Global,
+    columns: Vec<Column>,
+    group: &Group,
+    earlier: &[Table],
+) -> Result<Table, AllocError>
+    requires { FitsGroup (widths_of earlier.now) (length columns.items) group.now }
+    ensures { IfOk result (λ table. table ≡ record { columns = columns.items; rows = node_rows (Operator.Group group.now) [] (map (λ t. t.rows) earlier.now) }) }
+{
+    let aggregates = aggregates_of(alloc, group.aggregates.as_slice())?;
+    let rows = source_rows(alloc, earlier, group.source)?;
+    let made = group_rows(alloc, group.keys.as_slice(), &aggregates, &rows)?;
+    table_of_made(alloc, columns, &made)
+}
+
+// The rows of a group with keys or without.
+fn group_rows(
+    alloc: Global,
+    keys: &[u32],
+    aggregates: &[Aggregate],
+    rows: &[&[u64]],
+) -> Result<Vec<Vec<u64>>, AllocError>
+    requires of_keys { All (λ row. HasColumns keys.now (length row.now)) rows.now }
+    requires of_aggregates { All (λ row. All (IsAggregateOf (length row.now)) aggregates.now) rows.now }
+    ensures { IfOk result (λ made. map (λ row. row.items) made.items ≡ group_rows keys.now aggregates.now (map (λ row. row.now) rows.now)) }
+{
+    if keys.is_empty() {
+        whole_table_rows(alloc, aggregates, rows)
+    } else {
+        grouped_rows(alloc, keys, aggregates, rows)
+    }
+}
+
+pub(crate) fn distinct(
+    alloc: Global,
+    columns: Vec<Column>,
+    distinct: &Distinct,
+    earlier: &[Table],
+) -> Result<Table, AllocError>
+    requires { FitsDistinct (widths_of earlier.now) (length columns.items) distinct.now }
+    ensures { IfOk result (λ table. table ≡ record { columns = columns.items; rows = node_rows (Operator.Distinct distinct.now) [] (map (λ t. t.rows) earlier.now) }) }
+{
+    let rows = source_rows(alloc, earlier, distinct.source)?;
+    let kept = distinct_rows(alloc, &rows)?;
+    table_of_lent(alloc, columns, &kept)
+}

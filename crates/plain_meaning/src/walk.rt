@@ -1,0 +1,151 @@
+//! The tables of all nodes.
+#![tactic(auto)]
+
+ghost use Rattle.std.specs.Prelude.{◌≡◌, ◌<◌, length, IfOk};
+ghost use Rattle.plain_meaning.specs.Fits.{IsWorldOf};
+ghost use Rattle.plain_meaning.specs.Plain.{IsPlain};
+
+use crate::node::{is_over, node_table};
+use crate::world::{World, is_relation};
+use query_graph::Graph;
+use query_text::Sequence;
+use std::alloc::{AllocError, Global};
+use tables::Table;
+
+/// The tables of a graph's first nodes, in order: of all of them, or of those before the first with more rows than its
+/// `at most`, whose number is in `over`.
+#[derive(Debug, Drop)]
+pub struct PlainRows {
+    pub tables: Sequence<Table>,
+    pub over: Option<u32>,
+}
+
+/// The plain rows of each node, up to the first with more rows than its `at most`; of that node no more than one row
+/// above the bound is listed where it is a join, and none is given.
+pub fn plain(alloc: Global, graph: &Graph, world: &World) -> Result<PlainRows, AllocError>
+    requires { IsWorldOf graph.now.nodes world.now }
+    ensures { IfOk result (λ plain. IsPlain graph.now.nodes world.now plain.tables plain.over) }
+{
+    let mut tables = Vec::new(alloc);
+    let mut relation = 0;
+    for (number, node) in graph.nodes().iter().enumerate() {
+        let table = node_table(alloc, node, world, relation, &tables)?;
+        if is_over(&node.shape, &table) {
+            return Ok(PlainRows {
+                tables: Sequence::from_vec(tables),
+                over: Some(number as u32),
+            });
+        }
+        if is_relation(&node.shape) {
+            relation += 1;
+        }
+        tables.push(table)?;
+    }
+    Ok(PlainRows {
+        tables: Sequence::from_vec(tables),
+        over: None,
+    })
+}
+
+#[cfg(test)]
+mod tests {
+    use super::*;
+    use crate::rows::copy_of;
+    use query_graph::{Node, build};
+    use query_text::read_query;
+    use std::test::Fail;
+
+    fn file_of(alloc: Global, node: &Node, rows: &[&[u64]]) -> Result<Table, AllocError> {
+        let mut table = Table::new(alloc, copy_of(alloc, node.columns.as_slice())?);
+        for row in rows {
+            if row.len() == table.columns().len() {
+                table.push(row)?;
+            }
+        }
+        Ok(table)
+    }
+
+    // A table for each relation, of these rows in order, and of none where there are too few.
+    fn files_of(
+        alloc: Global,
+        graph: &Graph,
+        files: &[&[&[u64]]],
+    ) -> Result<Vec<Table>, AllocError> {
+        let mut tables = Vec::new(alloc);
+        for node in graph.nodes() {
+            if is_relation(&node.shape) {
+                let rows = files.get(tables.len()).copied().unwrap_or(&[]);
+                tables.push(file_of(alloc, node, rows)?)?;
+            }
+        }
+        Ok(tables)
+    }
+
+    fn run(alloc: Global, text: &[u8], files: &[&[&[u64]]]) -> Result<PlainRows, Fail> {
+        let graph = build(alloc, &read_query(alloc, text)?)?;
+        match World::new(&graph, files_of(alloc, &graph, files)?) {
+            Ok(world) => Ok(plain(alloc, &graph, &world)?),
+            Err(_) => Err("no world")?,
+        }
+    }
+
+    // The last table's rows.
+    fn is_last(plain: &PlainRows, want: &[&[u64]]) -> bool {
+        match plain.tables.as_slice().last() {
+            Some(table) => {
+                let mut rows = want.iter();
+                table.rows() == want.len()
+                    && (0..table.rows()).all(|number| rows.next().copied()
+                        == Some(table.row(number)))
+            }
+            None => false,
+        }
+    }
+
+    const SCORES: &[u8] = b"relation people of 1 rows 4 (ssn num, zip num)
+relation scores2 of 2 rows 3 (ssn num trust 1, score num)
+relation scores3 of 3 rows 3 (ssn num trust 1, score num)
+scores = concat scores2 scores3
+joined = join people scores on ssn at most 6
+byzip = group joined by zip (total = sum score, n = count)
+output byzip to 1
+";
+
+    #[test]
+    fn gives_scores_by_zip(rt: HostRuntime) -> Result<(), Fail> {
+        let files: [&[&[u64]]; 3] = [
+            &[&[100, 2139], &[101, 2139], &[102, 94110], &[103, 10001]],
+            &[&[100, 700], &[101, 650], &[102, 600]],
+            &[&[100, 710], &[102, 640], &[999, 500]],
+        ];
+        let plain = run(rt.alloc(), SCORES, &files)?;
+        assert_eq!(rt; plain.over, None);
+        assert_eq!(rt; plain.tables.len(), 6);
+        assert!(rt; is_last(&plain, &[&[2139, 2060, 3], &[94110, 1240, 2]]));
+        Ok(())
+    }
+
+    #[test]
+    fn lists_no_product_above_its_bound(rt: HostRuntime) -> Result<(), Fail> {
+        let rows: [&[u64]; 4096] = [&[7]; 4096];
+        let text = b"relation r of 1 rows 4096 (k num)
+j = join r r on k at most 10
+d = distinct j
+output d to 1
+";
+        let plain = run(rt.alloc(), text, &[&rows])?;
+        assert_eq!(rt; plain.over, Some(1));
+        assert_eq!(rt; plain.tables.len(), 1);
+        Ok(())
+    }
+
+    #[test]
+    fn gives_tables_back_that_are_no_world(rt: HostRuntime) -> Result<(), Fail> {
+        let alloc = rt.alloc();
+        let graph = build(alloc, &read_query(alloc, SCORES)?)?;
+        let mut files = files_of(alloc, &graph, &[])?;
+        let _ = files.pop();
+        assert!(rt; World::new(&graph, files).is_err());
+        Ok(())
+    }
+}

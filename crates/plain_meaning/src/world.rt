@@ -1,0 +1,120 @@
+//! The tables of a graph's relations.
+#![tactic(auto)]
+
+ghost use Rattle.std.specs.Prelude.{◌≡◌, ◌<◌, ◌↔◌, IsTrue, map, length, slice_get, Some, IfOk, IfErr};
+ghost use Rattle.plain_meaning.specs.Fits.{AreFiles, IsFileOf, IsWorldOf};
+ghost use Rattle.plain_meaning.specs.Meaning.{is_relation};
+
+use query_graph::{Graph, Node, Operator};
+use std::marker::Model;
+use tables::Table;
+use words::{Column, Kind};
+
+/// The tables of a graph's relations, seen as one list of rows for each, in the order of the text.
+#[derive(Debug, Drop)]
+pub struct World {
+    tables: Vec<Table>,
+}
+
+impl Model for World {
+    ghost use Rattle.std.specs.Prelude.{List, ℕ, map};
+
+    ghost Value = { List (List (List ℕ)) };
+
+    ghost view = { λ world. map (λ table. table.rows) world.tables.items };
+}
+
+impl World {
+    #[tactic(auto, using(crate::proofs::Files::world_of_files))]
+    /// The world of these tables, one for each relation in the order of the text.
+    ///
+    /// Gives the tables back where there aren't as many as relations, or one has other columns than its relation or
+    /// more rows.
+    pub fn new(graph: &Graph, tables: Vec<Table>) -> Result<World, Vec<Table>>
+        ensures ok { IfOk result (λ world. (world ≡ map (λ t. t.rows) tables.items) × AreFiles graph.now.nodes tables.items) }
+        ensures fits { IfOk result (λ world. IsWorldOf graph.now.nodes world) }
+        ensures err { IfErr result (λ back. (back ≡ tables) × ¬ (AreFiles graph.now.nodes tables.items)) }
+    {
+        if are_files(graph.nodes(), &tables) {
+            Ok(World { tables })
+        } else {
+            Err(tables)
+        }
+    }
+
+    /// The table of a relation, by its number from 0.
+    pub fn table(&self, relation: usize) -> &Table
+        requires { relation < length self.now }
+        ensures { slice_get self.now relation ≡ Some result.now.rows }
+    {
+        &self.tables[relation]
+    }
+}
+
+// Whether these are the tables of the nodes' relations.
+fn are_files(nodes: &[Node], tables: &[Table]) -> bool
+    ensures { IsTrue result ↔ AreFiles nodes.now tables.now }
+{
+    let mut number = 0;
+    for node in nodes {
+        if is_relation(&node.shape) {
+            if number >= tables.len() || !is_file_of(node, &tables[number]) {
+                return false;
+            }
+            number += 1;
+        }
+    }
+    number == tables.len()
+}
+
+// Whether an operator is a relation.
+pub(crate) fn is_relation(operator: &Operator) -> bool
+    ensures { result ≡ is_relation operator.now }
+{
+    match operator {
+        Operator::Relation(_) => true,
+        Operator::Filter(_) => false,
+        Operator::Select(_) => false,
+        Operator::Concat(_) => false,
+        Operator::Join(_) => false,
+        Operator::Group(_) => false,
+        Operator::Distinct(_) => false,
+    }
+}
+
+fn is_file_of(node: &Node, table: &Table) -> bool
+    ensures { IsTrue result ↔ IsFileOf node.now table.now }
+{
+    same_columns(table.columns(), node.columns.as_slice()) && table.rows() <= node.rows as usize
+}
+
+// Whether both are the same columns in the same order.
+fn same_columns(left: &[Column], right: &[Column]) -> bool
+    ensures { IsTrue result ↔ (left.now ≡ right.now) }
+{
+    if left.len() != right.len() {
+        return false;
+    }
+    for (number, column) in left.iter().enumerate() {
+        if !same_column(column, &right[number]) {
+            return false;
+        }
+    }
+    true
+}
+
+fn same_column(left: &Column, right: &Column) -> bool
+    ensures { IsTrue result ↔ (left.now ≡ right.now) }
+{
+    left.name.bytes() == right.name.bytes() && same_kind(left.kind, right.kind)
+}
+
+fn same_kind(left: Kind, right: Kind) -> bool
+    ensures { IsTrue result ↔ (left ≡ right) }
+{
+    match left {
+        Kind::Num => matches!(right, Kind::Num),
+        Kind::Text => matches!(right, Kind::Text),
+        Kind::Flag => matches!(right, Kind::Flag),
+    }
+}
