@@ -6,18 +6,20 @@ use Rattle.std.proofs.lemmas.Bool.Decides.{nat_tests}
 use Rattle.lanes.specs.Carry.{carries_word, span_after}
 use Rattle.lanes.specs.Fold.{folded_word}
 use Rattle.lanes.specs.Lanes.{lanewise, lanewise1}
+use Rattle.lanes.specs.Product.{product_after, product_term}
 use Rattle.lanes.specs.Shifts.{shifted_left, shifted_right}
-use Rattle.lanes.specs.Sums.{chosen_word, difference_word, equal_word, less_word, sum_word}
+use Rattle.lanes.specs.Sums.{chosen_word, difference_word, equal_word, less_word, product_word, sum_word}
 use Rattle.lanes.specs.Word.{AreWords, word_not}
 use Rattle.lanes.proofs.WordChoice.{choice_by_mask, equality_by_fold}
+use Rattle.lanes.proofs.WordProduct.{product_of_terms}
 use Rattle.lanes.proofs.WordSums.{difference_by_sum, less_by_carry, sum_of_carries}
-use Rattle.circuits.specs.Values.{chosen_lanes, difference_lanes, fold_lanes, less_lanes, masked_choice, shared_fold, sum_lanes, wider_generates, wider_propagates}
+use Rattle.circuits.specs.Values.{added_lanes, chosen_lanes, difference_lanes, fold_lanes, less_lanes, masked_choice, shared_fold, sum_lanes, term_lanes, wider_generates, wider_propagates}
 
 -- the first word of a list of words, and the rest
-head_word : (x : ℕ) (xs : List ℕ) → AreWords (x ∷ xs) → x < 2 ^ 64
+pub head_word : (x : ℕ) (xs : List ℕ) → AreWords (x ∷ xs) → x < 2 ^ 64
 head_word x xs h = h.below 0
 
-tail_words : (x : ℕ) (xs : List ℕ) → AreWords (x ∷ xs) → AreWords xs
+pub tail_words : (x : ℕ) (xs : List ℕ) → AreWords (x ∷ xs) → AreWords xs
 tail_words x xs h = record { below = λ k. h.below (suc k) }
 
 -- two functions that agree on words agree on lists of words
@@ -154,3 +156,23 @@ pub greatest_is : (xs ys : List ℕ) → chosen_lanes (lanewise less_word xs ys)
 greatest_is [] ys = refl
 greatest_is (x ∷ xs) [] = refl
 greatest_is (x ∷ xs) (y ∷ ys) = ap (λ h. h ∷ chosen_lanes (lanewise less_word xs ys) ys xs) (greater x y) ∙ ap (λ rest. max x y ∷ rest) (greatest_is xs ys)
+
+-- products, term by term
+pub term_is : (i : ℕ) (xs ys : List ℕ) → term_lanes i xs ys ≡ lanewise (product_term i) xs ys
+unfolding term_lanes
+term_is i [] ys = lanewise_nil bit_and _
+term_is i (x ∷ xs) [] = refl
+term_is i (x ∷ xs) (y ∷ ys) = ap (λ rest. product_term i x y ∷ rest) (term_is i xs ys)
+
+pub product_step : (i : ℕ) (xs ys : List ℕ) → added_lanes (suc i) (lanewise (product_after i) xs ys) xs ys ≡ lanewise (product_after (suc i)) xs ys
+unfolding added_lanes product_after
+product_step i xs ys =
+    ap (lanewise sum_word (lanewise (product_after i) xs ys)) (term_is (suc i) xs ys)
+    ∙ lanewise_after sum_word (product_after i) (product_term (suc i)) xs ys
+
+pub product_begins : (xs ys : List ℕ) → term_lanes 0 xs ys ≡ lanewise (product_after 0) xs ys
+unfolding product_after
+product_begins xs ys = term_is 0 xs ys
+
+pub product_is : (xs ys : List ℕ) → AreWords xs → AreWords ys → lanewise (product_after 63) xs ys ≡ lanewise product_word xs ys
+product_is xs ys first second = same_lanes (product_after 63) product_word (λ x y above below. product_of_terms x y below) xs ys first second

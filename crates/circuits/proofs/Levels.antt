@@ -1,15 +1,16 @@
 -- Growth step after step, and what a loop over levels keeps.
 use Rattle.std.proofs.Common.{◌≡◌, ℕ, suc, ◌+◌, ◌*◌, ◌%◌, ◌^◌, ◌<◌, ◌≤◌, List, refl, sym, ap, ◌∙◌, add-one, arith}
-use Rattle.std.proofs.Math.Nat.{mul-le-mul_right, pow-le-pow_right}
+use Rattle.std.proofs.Math.Nat.{add-mul, mul-le-mul_right, pow-le-pow_right}
 use Rattle.lanes.specs.Carry.{span_after}
 use Rattle.lanes.specs.Fold.{folded_word}
 use Rattle.lanes.specs.Lanes.{lanewise, lanewise1}
+use Rattle.lanes.specs.Product.{product_after}
 use Rattle.wires.specs.Environment.{Environment, words}
 use Rattle.wires.specs.Growth.{Carries, Grows, IsMade, lanes_of}
 use Rattle.wires.specs.declared.wire.Wire.{Wire}
 use Rattle.circuits.specs.Loops.{Building, Spanning}
-use Rattle.circuits.specs.Values.{fold_lanes, wider_generates, wider_propagates}
-use Rattle.circuits.proofs.LaneValues.{fold_start, fold_step, generates_step, propagates_step}
+use Rattle.circuits.specs.Values.{added_lanes, fold_lanes, wider_generates, wider_propagates}
+use Rattle.circuits.proofs.LaneValues.{fold_start, fold_step, generates_step, product_step, propagates_step}
 use Rattle.circuits.proofs.Restated.{carried_on}
 
 -- a state has grown from itself
@@ -46,6 +47,10 @@ pub level_cost : (level last n : ℕ) → level < last → level * n + n ≤ las
 level_cost level last n below =
     let h : suc level * n ≤ last * n = mul-le-mul_right n (omega arith) in
     omega (arith, h)
+
+-- the AND words of one more term of a product
+pub more_terms : (place n : ℕ) → (1 + 14 * (place + 1)) * n ≡ (1 + 14 * place) * n + 14 * n
+more_terms place n = let split : 1 + 14 * (place + 1) ≡ 1 + 14 * place + 14 = omega arith in ap (λ k. k * n) split ∙ add-mul (1 + 14 * place) 14 n
 
 -- the fold before its first level, and after one more
 pub fold_begins : {S : Type 0} (grown : S → S → Type 0) (possible : S → Environment → Type 0) (shape : S → List ℕ) (ands : S → ℕ) (s : S) (wire : Wire)
@@ -122,4 +127,31 @@ spans_go_on grown possible shape ands first now mid next left right generate pro
             ∙ ap (λ k. lanewise (λ x y. (span_after k x y).propagate) (words v left) (words v right)) (sym (add-one level));
       };
       spent = omega (arith, before.spent, cost, then_cost, before.generate.lanes, lasting.lanes);
+    }
+
+-- a product after one more term
+pub product_goes_on : {S : Type 0} (grown : S → S → Type 0) (possible : S → Environment → Type 0) (shape : S → List ℕ) (ands : S → ℕ) (first now next : S)
+    (left right sum new : Wire) (n place : ℕ)
+    → Building grown possible shape ands first now sum n (λ v. lanewise (product_after place) (words v left) (words v right)) (1 + 14 * place)
+    → Grows grown possible shape now next
+    → lanes_of (shape now) left ≡ n
+    → Carries (possible next) (shape next) new (lanes_of (shape now) left) (λ v. added_lanes (place + 1) (words v sum) (words v left) (words v right))
+    → ands next ≤ ands now + 14 * lanes_of (shape now) left
+    → Building grown possible shape ands first next new n (λ v. lanewise (product_after (place + 1)) (words v left) (words v right)) (1 + 14 * (place + 1))
+product_goes_on grown possible shape ands first now next left right sum new n place before grows wide made cost =
+    record {
+      grows = grows_then grown possible shape first now next before.grows grows;
+      carries = record {
+        made = made.made;
+        lanes = made.lanes ∙ wide;
+        value = λ v possible_next.
+            made.value v possible_next
+            ∙ ap (λ sums. added_lanes (place + 1) sums (words v left) (words v right)) (before.carries.value v (grows.within v possible_next))
+            ∙ ap (λ k. added_lanes k (lanewise (product_after place) (words v left) (words v right)) (words v left) (words v right)) (add-one place)
+            ∙ product_step place (words v left) (words v right)
+            ∙ ap (λ k. lanewise (product_after k) (words v left) (words v right)) (sym (add-one place));
+      };
+      spent =
+          let more : (1 + 14 * (place + 1)) * n ≡ (1 + 14 * place) * n + 14 * n = more_terms place n in
+          omega (arith, before.spent, cost, wide, more);
     }

@@ -1,2 +1,6 @@
 pub mod Values
 pub mod Loops
+pub mod Folds
+pub mod Runs
+pub mod RunLoops
+pub mod Copies

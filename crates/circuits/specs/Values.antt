@@ -42,3 +42,17 @@ less_lanes xs ys = lanewise1 (shifted_right 63) (lanewise carries_word (lanewise
 
 unfoldable pub difference_lanes : List ℕ → List ℕ → List ℕ
 difference_lanes xs ys = lanewise1 word_not (lanewise sum_word (lanewise1 word_not xs) ys)
+
+-- a term of a product, and a sum with one more term
+unfoldable pub term_lanes : ℕ → List ℕ → List ℕ → List ℕ
+term_lanes place xs ys = lanewise bit_and (lanewise1 spread_word (lanewise1 (shifted_right place) ys)) (lanewise1 (shifted_left place) xs)
+
+unfoldable pub added_lanes : ℕ → List ℕ → List ℕ → List ℕ → List ℕ
+added_lanes place sums xs ys = lanewise sum_word sums (term_lanes place xs ys)
+
+-- the words where a flag is 1, and else 0; and else all ones
+unfoldable pub cleared_lanes : List ℕ → List ℕ → List ℕ
+cleared_lanes flags xs = lanewise bit_and (lanewise1 spread_word flags) xs
+
+unfoldable pub raised_lanes : List ℕ → List ℕ → List ℕ
+raised_lanes flags xs = lanewise1 word_not (cleared_lanes flags (lanewise1 word_not xs))

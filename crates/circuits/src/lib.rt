@@ -6,12 +6,24 @@
 #![tactic(auto)]
 
 mod choice;
+mod copies;
 mod equality;
+mod folds;
+mod places;
 mod prefix;
+mod products;
+mod run_flags;
+#[cfg(test)]
+mod run_tests;
+mod runs;
 mod sums;
 #[cfg(test)]
 mod tests;
 
 pub use choice::{greatest, least, mux};
+pub use copies::run_copies;
 pub use equality::eq;
+pub use folds::{Fold, combine, masked};
+pub use products::mul;
+pub use runs::{run_folds, run_sums};
 pub use sums::{add, lt, sub};

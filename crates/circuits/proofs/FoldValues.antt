@@ -1,0 +1,46 @@
+-- Words under a flag, from words to lanes, and the laws of folds.
+use Rattle.std.proofs.Common.{◌≡◌, ℕ, ◌%◌, ◌^◌, ◌-◌, ◌<◌, ⊎_elim, List, [], ◌∷◌, refl, ap, ◌∙◌, arith, true, false, lit<}
+use Rattle.std.specs.Prelude.{bit_and, nat_eq}
+use Rattle.std.proofs.lemmas.Bool.Decides.{nat_tests}
+use Rattle.std.proofs.lemmas.Nat.{xor_lt}
+use Rattle.lanes.specs.Lanes.{lanewise}
+use Rattle.lanes.specs.Shifts.{spread_word}
+use Rattle.lanes.specs.Sums.{chosen_word}
+use Rattle.lanes.specs.Word.{AreWords, word_not}
+use Rattle.lanes.proofs.Carries.{bit_cases}
+use Rattle.lanes.proofs.WordChoice.{spread_off, spread_on}
+use Rattle.lanes.proofs.WordLemmas.{not_not}
+use Rattle.circuits.specs.Values.{cleared_lanes, raised_lanes}
+use Rattle.circuits.proofs.LaneValues.{head_word, tail_words}
+
+-- a word and a spread flag
+cleared_word : (flag x : ℕ) → x < 2 ^ 64 → bit_and (spread_word flag) x ≡ chosen_word flag x 0
+cleared_word flag x below = ⊎_elim
+    (λ (off : flag % 2 ≡ 0). let no : nat_eq (flag % 2) 1 ≡ false = grind (arith, nat_tests) in spread_off flag x off ∙ rw no refl)
+    (λ (on : flag % 2 ≡ 1). let yes : nat_eq (flag % 2) 1 ≡ true = grind (arith, nat_tests) in spread_on flag x on below ∙ rw yes refl)
+    (bit_cases (flag % 2) (omega arith))
+
+not_word : (x : ℕ) → x < 2 ^ 64 → word_not x < 2 ^ 64
+not_word x below = xor_lt 64 x (2 ^ 64 - 1) below (lit< tt)
+
+raised_word : (flag x : ℕ) → x < 2 ^ 64 → word_not (bit_and (spread_word flag) (word_not x)) ≡ chosen_word flag x (2 ^ 64 - 1)
+raised_word flag x below = ⊎_elim
+    (λ (off : flag % 2 ≡ 0). let no : nat_eq (flag % 2) 1 ≡ false = grind (arith, nat_tests) in ap word_not (spread_off flag (word_not x) off) ∙ rw no refl)
+    (λ (on : flag % 2 ≡ 1). let yes : nat_eq (flag % 2) 1 ≡ true = grind (arith, nat_tests) in ap word_not (spread_on flag (word_not x) on (not_word x below)) ∙ not_not x ∙ rw yes refl)
+    (bit_cases (flag % 2) (omega arith))
+
+pub cleared_is : (flags xs : List ℕ) → AreWords xs → cleared_lanes flags xs ≡ lanewise (λ flag x. chosen_word flag x 0) flags xs
+unfolding cleared_lanes
+cleared_is [] xs h = refl
+cleared_is (flag ∷ flags) [] h = refl
+cleared_is (flag ∷ flags) (x ∷ xs) h =
+    ap (λ w. w ∷ cleared_lanes flags xs) (cleared_word flag x (head_word x xs h))
+    ∙ ap (λ rest. chosen_word flag x 0 ∷ rest) (cleared_is flags xs (tail_words x xs h))
+
+pub raised_is : (flags xs : List ℕ) → AreWords xs → raised_lanes flags xs ≡ lanewise (λ flag x. chosen_word flag x (2 ^ 64 - 1)) flags xs
+unfolding cleared_lanes raised_lanes
+raised_is [] xs h = refl
+raised_is (flag ∷ flags) [] h = refl
+raised_is (flag ∷ flags) (x ∷ xs) h =
+    ap (λ w. w ∷ raised_lanes flags xs) (raised_word flag x (head_word x xs h))
+    ∙ ap (λ rest. chosen_word flag x (2 ^ 64 - 1) ∷ rest) (raised_is flags xs (tail_words x xs h))

@@ -1,0 +1,132 @@
+ghost use Rattle.std.specs.Prelude.{◌≡◌, ◌<◌, ◌^◌, length};
+
+use crate::{Fold, run_copies, run_folds, run_sums};
+use rand::rngs::StdRng;
+use rand::{RngExt, SeedableRng};
+use std::alloc::{AllocError, Global};
+use std::test::Fail;
+use wires::{Clear, Tally, Wires};
+
+const FOLDS: [(Fold, u32); 3] = [(Fold::Sum, 15), (Fold::Least, 16), (Fold::Greatest, 16)];
+
+// The words of the folds of runs; a fold of none is the sums.
+fn folds_of(
+    alloc: Global,
+    fold: Option<Fold>,
+    joined: &[u64],
+    column: &[u64],
+) -> Result<Vec<u64>, AllocError>
+    requires few { length joined.now < 2 ^ 32 }
+    requires lanes { length joined.now ≡ length column.now }
+{
+    let mut wires = Clear::new(alloc);
+    let flags = wires.constant(joined)?;
+    let words = wires.constant(column)?;
+    let new = match fold {
+        Some(fold) => run_folds(&mut wires, alloc, fold, flags, words)?,
+        None => run_sums(&mut wires, alloc, flags, words)?,
+    };
+    wires.value(new).clone()
+}
+
+#[test]
+fn runs_are_folded_lane_by_lane(rt: HostRuntime) -> Result<(), Fail> {
+    let joined = [0, 1, 1, 0, 1];
+    let column = [3, 1, 4, 5, 9];
+    for (fold, want) in [
+        (None, [3, 4, 8, 5, 14]),
+        (Some(Fold::Sum), [3, 4, 8, 5, 14]),
+        (Some(Fold::Least), [3, 1, 1, 5, 5]),
+        (Some(Fold::Greatest), [3, 3, 4, 5, 9]),
+    ] {
+        let value = folds_of(rt.alloc(), fold, &joined, &column)?;
+        assert_eq!(rt; value.as_slice(), want.as_slice(), "{fold:?}");
+    }
+    let value = folds_of(rt.alloc(), None, &[1, 7, 2], &[1, 2, 3])?;
+    assert_eq!(rt; value.as_slice(), [1, 3, 3].as_slice());
+    let value = folds_of(rt.alloc(), None, &[], &[])?;
+    assert_eq!(rt; value.len(), 0);
+    Ok(())
+}
+
+// What Rust's own arithmetic gives.
+fn folded(fold: Fold, left: u64, right: u64) -> u64 {
+    match fold {
+        Fold::Sum => left.wrapping_add(right),
+        Fold::Least => left.min(right),
+        Fold::Greatest => left.max(right),
+    }
+}
+
+#[test]
+fn a_thousand_random_lanes_are_folded(rt: HostRuntime) -> Result<(), Fail> {
+    let mut random = StdRng::seed_from_u64(11);
+    let mut joined = Vec::new(rt.alloc());
+    let mut column = Vec::new(rt.alloc());
+    for _ in 0..1000 {
+        joined.push(random.random_range(0..40u64).min(1))?;
+        column.push(random.random())?;
+    }
+    assert_eq!(rt; joined.len(), 1000);
+    assert_eq!(rt; column.len(), 1000);
+    for (fold, _) in FOLDS {
+        let value = folds_of(rt.alloc(), Some(fold), joined.as_slice(), column.as_slice())?;
+        assert_eq!(rt; value.len(), 1000);
+        let mut so_far = 0;
+        for lane in 0..1000 {
+            so_far = if lane == 0 || joined[lane] == 0 {
+                column[lane]
+            } else {
+                folded(fold, so_far, column[lane])
+            };
+            assert_eq!(rt; value[lane], so_far, "{fold:?} in lane {lane}");
+        }
+    }
+    Ok(())
+}
+
+// The AND words of the folds of runs over lanes of zeros.
+fn cost_of(alloc: Global, fold: Fold, zeros: &[u64]) -> Result<u64, AllocError>
+    requires { length zeros.now < 2 ^ 32 }
+{
+    let mut wires = Tally::new(alloc);
+    let x = wires.constant(zeros)?;
+    let _new = run_folds(&mut wires, alloc, fold, x, x)?;
+    Ok(wires.and_words())
+}
+
+#[test]
+fn runs_cost_what_is_promised(rt: HostRuntime) -> Result<(), Fail> {
+    for (fold, words) in FOLDS {
+        let lane = u64::from(words);
+        assert_eq!(rt; cost_of(rt.alloc(), fold, &[0])?, 0, "{fold:?}");
+        assert_eq!(rt; cost_of(rt.alloc(), fold, &[0, 0])?, 2 * lane, "{fold:?}");
+        assert_eq!(rt;
+            cost_of(rt.alloc(), fold, &[0, 0, 0, 0, 0])?,
+            15 * lane,
+            "{fold:?}"
+        );
+    }
+    Ok(())
+}
+
+// The AND words of copying no column, and two columns.
+fn copies_cost(alloc: Global, zeros: &[u64]) -> Result<[u64; 2], AllocError>
+    requires { length zeros.now < 2 ^ 32 }
+{
+    let mut none = Tally::new(alloc);
+    let joined = none.constant(zeros)?;
+    let _none = run_copies(&mut none, alloc, joined, &[])?;
+    let mut two = Tally::new(alloc);
+    let x = two.constant(zeros)?;
+    let _two = run_copies(&mut two, alloc, x, &[x, x])?;
+    Ok([none.and_words(), two.and_words()])
+}
+
+#[test]
+fn copies_cost_what_is_promised(rt: HostRuntime) -> Result<(), Fail> {
+    assert_eq!(rt; copies_cost(rt.alloc(), &[0])?, [0, 0]);
+    assert_eq!(rt; copies_cost(rt.alloc(), &[0, 0])?, [2, 6]);
+    assert_eq!(rt; copies_cost(rt.alloc(), &[0, 0, 0, 0, 0])?, [15, 45]);
+    Ok(())
+}
