@@ -1,0 +1,4 @@
+pub mod Steps
+pub mod Graphs
+pub mod Needs
+pub mod Within

@@ -1,0 +1,5 @@
+pub mod Known
+pub mod Release
+pub mod Trust
+pub mod Faults
+pub mod Laws
