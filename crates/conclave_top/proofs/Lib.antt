@@ -1,6 +1,8 @@
-pub mod Columns
 pub mod Ends
 pub mod Exact
-pub mod KeptRows
-pub mod Runs
-pub mod Spelled
+pub mod Files
+pub mod NodeNames
+pub mod PlainTables
+pub mod PrintedNodes
+pub mod ReadFiles
+pub mod Verdicts

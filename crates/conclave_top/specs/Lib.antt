@@ -1,10 +1,11 @@
+pub mod Answers
 pub mod Command
+pub mod Compile
 pub mod End
 pub mod Finish
-pub mod FirstForm
-pub mod Guess
-pub mod Kept
 pub mod Laws
+pub mod Lines
 pub mod Outcome
 pub mod Outside
 pub mod Plain
+pub mod Relations

@@ -1,8 +1,9 @@
 -- What each status says.
 use Rattle.std.specs.Prelude.{◌≡◌, ℕ, List, Option, Some, None, ◌⊎◌}
 use Rattle.conclave_top.specs.Command.{Command, plain, command_of}
-use Rattle.conclave_top.specs.Outside.{Outside, gained, HasFailed, Tells, usage_line, not_built_line, no_table_line, outside_line, memory_line}
-use Rattle.conclave_top.specs.Plain.{IsNotBuilt, HasNoTable, Prints, PlainCalls}
+use Rattle.conclave_top.specs.Lines.{memory_line, outside_line, usage_line}
+use Rattle.conclave_top.specs.Outside.{Outside, gained, HasFailed, Tells}
+use Rattle.conclave_top.specs.Plain.{Verdict, refuses, faults, prints, IsDue, PlainCalls}
 
 -- 0: this was written to the output, and nothing to the stream for errors
 pub record IsDone (output : List ℕ) (old new : Outside) (status : ℕ) : Type 0 where
@@ -27,27 +28,21 @@ pub record IsOutOfMemory (old new : Outside) (status : ℕ) : Type 0 where
   pub told : (new.err ≡ gained memory_line old.err) ⊎ (new.err ≡ old.err)
   pub unwritten : new.out ≡ old.out
 
--- 0 of `plain`: the output is the query's answer over the folder's bytes
-pub record PlainIsDone (query : List ℕ) (old new : Outside) (status : ℕ) : Type 0 where
-  pub output : List ℕ
-  pub prints : Prints old.files query output
-  pub done : IsDone output old new status
+-- 2, 3 or 0: by the verdict, with its line or its output
+abbrev pub Settles : Verdict → Outside → Outside → ℕ → Type 0
+Settles (refuses line) old new status = IsRefused 2 line old new status
+Settles (faults line) old new status = IsRefused 3 line old new status
+Settles (prints output) old new status = IsDone output old new status
 
--- 2 of `plain`: the query's bytes were read, and are not of the first form
-pub record PlainIsNotBuilt (query : List ℕ) (old new : Outside) (status : ℕ) : Type 0 where
-  pub is_not : IsNotBuilt old.files query
-  pub refused : IsRefused 2 not_built_line old new status
-
--- 3 of `plain`: the query is of the first form, its file was read, and is no table of its declaration
-pub record PlainHasNoTable (query : List ℕ) (old new : Outside) (status : ℕ) : Type 0 where
-  pub file : List ℕ
-  pub none : HasNoTable old.files query file
-  pub refused : IsRefused 3 (no_table_line file) old new status
+-- the run settled by the verdict that is due for the query over the folder's bytes
+pub record PlainIsSettled (query : List ℕ) (old new : Outside) (status : ℕ) : Type 0 where
+  pub verdict : Verdict
+  pub due : IsDue old.files query verdict
+  pub settles : Settles verdict old new status
 
 -- the outcomes of `plain`
 abbrev pub PlainOutcome : List ℕ → Outside → Outside → ℕ → Type 0
-PlainOutcome query old new status =
-    PlainIsDone query old new status ⊎ (PlainIsNotBuilt query old new status ⊎ (PlainHasNoTable query old new status ⊎ (IsFailed old new status ⊎ IsOutOfMemory old new status)))
+PlainOutcome query old new status = PlainIsSettled query old new status ⊎ (IsFailed old new status ⊎ IsOutOfMemory old new status)
 
 -- the outcomes of a command line, by the form that it is
 abbrev pub OutcomeOf : Option Command → Outside → Outside → ℕ → Type 0

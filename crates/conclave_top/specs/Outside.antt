@@ -1,8 +1,7 @@
 -- What the outside tells of itself, and how a command leaves it.
-use Rattle.std.specs.Prelude.{◌≡◌, ℕ, List, ◌++◌, Option, option_map, codes, ◌⊎◌}
+use Rattle.std.specs.Prelude.{◌≡◌, ℕ, List, ◌++◌, Option, option_map, ◌⊎◌}
 use Rattle.outside.specs.Cause.{Rose}
 use Rattle.outside.specs.Folder.{Files}
-use Rattle.conclave_top.specs.FirstForm.{line_end}
 
 -- a folder, an output and a stream for errors at one moment: what they tell, and their counts of faults
 pub record Outside : Type 0 where
@@ -25,24 +24,3 @@ HasFailed old new = Rose old.folder_faults new.folder_faults ⊎ Rose old.out_fa
 -- the stream for errors got exactly this line, or nothing where its own count rose
 abbrev pub Tells : List ℕ → Outside → Outside → Type 0
 Tells line old new = (new.err ≡ gained line old.err) ⊎ ((new.err ≡ old.err) × Rose old.err_faults new.err_faults)
-
--- the usage line
-abbrev pub usage_line : List ℕ
-usage_line =
-    codes "usage: conclave plan Q, plain Q, tape Q SEED T, run Q T [TURNS], audit Q PARTY A B T, replay Q PARTY T V, party Q PARTY T [PORT], make N" ++ line_end
-
--- the line of a query that isn't built
-abbrev pub not_built_line : List ℕ
-not_built_line = codes "refused: not built line 0" ++ line_end
-
--- the line of a file that is no table of its declaration
-abbrev pub no_table_line : List ℕ → List ℕ
-no_table_line file = codes "file " ++ (file ++ (codes ": not a table" ++ line_end))
-
--- the line of a fault of the folder or of the output
-abbrev pub outside_line : List ℕ
-outside_line = codes "outside fault" ++ line_end
-
--- the line of want of memory
-abbrev pub memory_line : List ℕ
-memory_line = codes "out of memory" ++ line_end

@@ -1,67 +1,79 @@
 -- What the command `plain` comes to over a folder.
-use Rattle.std.specs.Prelude.{◌≡◌, ℕ, List, [], ◌∷◌, ◌++◌, map, Option, Result, Ok, IsErr, codes, option_map, ◌⊎◌}
+use Rattle.std.specs.Prelude.{◌≡◌, ℕ, List, [], ◌∷◌, ◌++◌, take, Option, Result, Ok, Err, option_map, ◌⊎◌}
 use Rattle.outside.specs.Folder.{Files, Holds}
-use Rattle.tables.specs.Answer.{answer_of}
-use Rattle.tables.specs.Content.{Content}
-use Rattle.tables.specs.File.{table_in}
-use Rattle.tables.specs.declared.fault.TableFault.{TableFault}
-use Rattle.words.specs.declared.column.Column.{Column}
-use Rattle.words.specs.declared.column.Kind.TheVariants.{Num}
-use Rattle.conclave_top.specs.FirstForm.{RelationForm, Form, IsFirstForm, line_end}
-use Rattle.conclave_top.specs.Kept.{kept_rows}
+use Rattle.query_graph.specs.Content.{Content}
+use Rattle.tables.specs.Content as table
+use Rattle.plain_meaning.specs.Fits.{relations}
+use Rattle.conclave_top.specs.Answers.{printed}
+use Rattle.conclave_top.specs.Compile.{IsCompiled, IsRefused}
+use Rattle.conclave_top.specs.Relations.{AreHeld, files_of, tables_of}
 
--- the name of a relation's file
-abbrev pub file_of : List ℕ → List ℕ
-file_of relation = relation ++ codes ".csv"
+-- what a query comes to over the bytes of a folder
+pub data Verdict : Type 0 where
+  -- it is refused, with this line
+  refuses : List ℕ → Verdict
+  -- a relation's file is no table of its declaration, with the line of the first such
+  faults : List ℕ → Verdict
+  -- these bytes are its answers
+  prints : List ℕ → Verdict
 
--- the columns of a relation of the first form, each of numbers
-abbrev pub columns_of : RelationForm → List Column
-columns_of r = map (λ name. record { name = name; kind = Num }) r.columns
+abbrev pub told : Content → Result (List table.Content) (List ℕ) → Verdict
+told graph (Err line) = faults line
+told graph (Ok tables) = prints (printed graph tables)
 
--- the table that a file's bytes are under the relation's declaration
-abbrev pub declared_table : RelationForm → List ℕ → Result Content TableFault
-declared_table r bytes = table_in (columns_of r) r.rows bytes
+-- what a graph comes to over the bytes of its relations' files
+abbrev pub verdict_of : Content → List (List ℕ) → Verdict
+verdict_of graph bytes = told graph (tables_of (relations graph.nodes) bytes)
 
--- what is printed of the relation's rows: the filter's name on a line, and the answer text of the rows that it keeps
-abbrev pub printed : Form → List (List ℕ) → List ℕ
-printed form rows = form.filter.name ++ (line_end ++ answer_of (record { columns = columns_of form.relation; rows = kept_rows form rows }))
+-- the same, where a folder holds these bytes
+pub record IsDueOver (files : Option Files) (graph : Content) (verdict : Verdict) : Type 0 where
+  pub bytes : List (List ℕ)
+  pub held : AreHeld files (files_of graph.nodes) bytes
+  pub is : verdict ≡ verdict_of graph bytes
 
--- the query's bytes are of the first form
-pub record IsQuery (files : Option Files) (query : List ℕ) (form : Form) : Type 0 where
+-- what a text that is refused comes to
+pub record IsDueRefused (text : List ℕ) (verdict : Verdict) : Type 0 where
+  pub line : List ℕ
+  pub refused : IsRefused text line
+  pub is : verdict ≡ refuses line
+
+-- and one that isn't
+pub record IsDueCompiled (files : Option Files) (text : List ℕ) (verdict : Verdict) : Type 0 where
+  pub graph : Content
+  pub compiled : IsCompiled text graph
+  pub over : IsDueOver files graph verdict
+
+-- what a text comes to
+abbrev pub IsDueText : Option Files → List ℕ → Verdict → Type 0
+IsDueText files text verdict = IsDueRefused text verdict ⊎ IsDueCompiled files text verdict
+
+-- what the query in the file of this name comes to
+pub record IsDue (files : Option Files) (query : List ℕ) (verdict : Verdict) : Type 0 where
   pub text : List ℕ
   pub held : Holds files query text
-  pub is : IsFirstForm text form
-
--- the query's bytes are not of the first form
-pub record IsNotBuilt (files : Option Files) (query : List ℕ) : Type 0 where
-  pub text : List ℕ
-  pub held : Holds files query text
-  pub is_not : (form : Form) → IsFirstForm text form → ⊥
-
--- the relation's file is no table of its declaration
-pub record HasNoTable (files : Option Files) (query file : List ℕ) : Type 0 where
-  pub form : Form
-  pub bytes : List ℕ
-  pub is_query : IsQuery files query form
-  pub name : file ≡ file_of form.relation.name
-  pub held : Holds files file bytes
-  pub none : IsErr (declared_table form.relation bytes)
-
--- the query's answer over the relation's file is this text
-pub record Prints (files : Option Files) (query output : List ℕ) : Type 0 where
-  pub form : Form
-  pub bytes : List ℕ
-  pub table : Content
-  pub is_query : IsQuery files query form
-  pub held : Holds files (file_of form.relation.name) bytes
-  pub is_table : declared_table form.relation bytes ≡ Ok table
-  pub text : output ≡ printed form table.rows
+  pub due : IsDueText files text verdict
 
 -- these names were called, in order, behind those before
 abbrev pub Called : List (List ℕ) → Option (List (List ℕ)) → Option (List (List ℕ)) → Type 0
 Called names before after = after ≡ option_map (λ called. called ++ names) before
 
--- the query's name alone was called, or behind it the name of its relation's file, or nothing
+-- so many of these names were called, the first ones in order
+pub record CalledFront (names : List (List ℕ)) (before after : Option (List (List ℕ))) : Type 0 where
+  pub number : ℕ
+  pub called : Called (take number names) before after
+
+-- the query's file has a text with this graph
+pub record HasGraph (files : Option Files) (query : List ℕ) (graph : Content) : Type 0 where
+  pub text : List ℕ
+  pub held : Holds files query text
+  pub compiled : IsCompiled text graph
+
+-- the name of the query's file was called, and then names of its relations' files
+pub record CalledRelations (files : Option Files) (query : List ℕ) (before after : Option (List (List ℕ))) : Type 0 where
+  pub graph : Content
+  pub has : HasGraph files query graph
+  pub calls : CalledFront (query ∷ files_of graph.nodes) before after
+
+-- the query's name was called or nothing, or behind it the names of its relations' files, or the first of them
 abbrev pub PlainCalls : Option Files → List ℕ → Option (List (List ℕ)) → Option (List (List ℕ)) → Type 0
-PlainCalls files query before after =
-    Called [] before after ⊎ (Called (query ∷ []) before after ⊎ ((form : Form) × (IsQuery files query form × Called (query ∷ file_of form.relation.name ∷ []) before after)))
+PlainCalls files query before after = CalledFront (query ∷ []) before after ⊎ CalledRelations files query before after

@@ -1,6 +1,7 @@
+//! The command line.
+
 ghost use Rattle.std.specs.Prelude.{◌≡◌, map, option_map, string_bytes};
 ghost use Rattle.conclave_top.specs.Command.{plain, command_of};
-ghost use Rattle.conclave_top.specs.Laws.{StatusesAreExact};
 ghost use Rattle.conclave_top.specs.Outcome.{Outcome};
 ghost use Rattle.conclave_top.specs.Outside.{Outside};
 
@@ -12,8 +13,8 @@ use std::alloc::Global;
 
 /// Runs the command that the words are, over a folder, an output and a stream for errors, and gives its status.
 ///
-/// The words are the command line without the program's name. `plain Q` prints the rows of the query in the file Q over
-/// the files of the folder. The statuses are 0 (done), 1 (the words are no listed form), 2 (the query isn't built),
+/// The words are the command line without the program's name. `plain Q` prints the answers of the query in the file Q
+/// over the files of the folder. The statuses are 0 (done), 1 (the words are no listed form), 2 (the query is refused),
 /// 3 (a file is no table of its declaration), 8 (the folder or the output failed) and 9 (no memory was left); each but 0
 /// comes with one line on the stream for errors. Own.
 pub fn conclave<F: Folder, O: Sink, E: Sink>(
@@ -47,17 +48,11 @@ pub fn conclave<F: Folder, O: Sink, E: Sink>(
     match command_of(words) {
         Some(query) => {
             let end = plain(alloc, query, files, out);
-            finish(alloc, &end, err)
+            finish(&end, err)
         }
-        None => finish(alloc, &End::Usage, err),
+        None => finish(&End::Usage, err),
     }
 }
-
-/// A law: each status comes exactly where it is due, and the right words, text and file give status 0, where no count of
-/// faults rose and memory was left.
-pub fn statuses_are_exact()
-    ensures { StatusesAreExact }
-{}
 
 /// The query of `plain Q`, where the words are that form.
 fn command_of(words: &Vec<String>) -> Option<&str>

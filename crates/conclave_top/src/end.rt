@@ -1,6 +1,4 @@
-ghost use Rattle.std.specs.Prelude.{◌≡◌};
-
-use outside::{FolderFault, OutFault};
+//! Ends of a command.
 
 /// How a command ends.
 #[derive(Debug, Drop)]
@@ -9,10 +7,10 @@ pub(crate) enum End {
     Done,
     /// The words are no listed form.
     Usage,
-    /// The text is no query that is built.
-    NotBuilt,
-    /// The file of this name is no table of its declaration.
-    NoTable(String),
+    /// The query is refused, with this line.
+    Refused(Vec<u8>),
+    /// A relation's file is no table of its declaration, with this line.
+    Faulty(Vec<u8>),
     /// The folder or the output failed.
     Outside,
     /// No memory was left.

@@ -1,23 +1,21 @@
 //! The commands of the program, over any folder and streams that are handed in.
 //!
-//! Stands on `outside`, `tables`, `words` and `bags`. The folder and the streams are seen as what they tell: files,
-//! calls, bytes, and counts of faults. The main promise stands on `conclave`, as one record: what each status says of
-//! the words, the files and the bytes written, and that the right words, text and files give status 0.
+//! Stands on the query's crates, `plain_meaning`, `tables` and `outside`. The folder and the streams are seen as what
+//! they tell: files, calls, bytes, and counts of faults. The main promise stands on `conclave`, as one record: what each
+//! status says of the words, the files and the bytes written. The laws say that each comes exactly where it is due.
 #![tactic(auto)]
 
+mod answers;
 mod command;
-mod comparison;
+mod compile;
 mod end;
 mod finish;
-mod first_form;
-mod fitting;
-mod guess;
-mod kept;
+mod laws;
+mod lines;
 mod plain;
-mod read_form;
-mod scan;
-mod spell;
+mod relations;
 #[cfg(test)]
 mod tests;
 
-pub use command::{conclave, statuses_are_exact};
+pub use command::conclave;
+pub use laws::{one_verdict, some_verdict, statuses_are_exact};

@@ -1,29 +1,31 @@
-ghost use Rattle.std.specs.Prelude.{◌≡◌, ◌⊎◌, ◌++◌, List, ℕ, [], ◌∷◌, IfOk, true, string_bytes, option_map, IfSome};
-ghost use Rattle.std.specs.Str.{IsUtf8};
+//! The command `plain`, stage by stage: the query's text, its graph, the files of its relations, its answers.
+
+ghost use Rattle.std.specs.Prelude.{◌≡◌, ◌⊎◌, length, map, None};
 ghost use Rattle.outside.specs.Cause.{Rose};
-ghost use Rattle.outside.specs.Folder.{Files, Holds};
-ghost use Rattle.tables.specs.Content.{Content};
-ghost use Rattle.conclave_top.specs.FirstForm.{Form, IsFirstForm, is_name};
-ghost use Rattle.conclave_top.specs.Plain.{IsQuery, PlainCalls, Called, columns_of, declared_table, file_of, printed};
-ghost use Rattle.conclave_top.specs.End.{EndsPlain, EndsForm, EndsTable};
+ghost use Rattle.conclave_top.specs.End.{Ended};
+ghost use Rattle.conclave_top.specs.Plain.{CalledFront, IsDue, IsDueOver, PlainCalls, prints, verdict_of};
+ghost use Rattle.conclave_top.specs.Answers.{printed};
+ghost use Rattle.conclave_top.specs.Compile.{first_bound};
+ghost use Rattle.plain_meaning.specs.Fits.{AreFiles, relations};
+ghost use Rattle.conclave_top.specs.Relations.{AreNamed, files_of, tables_of};
 
+use crate::answers::answers;
+use crate::compile::{Stop, compile};
 use crate::end::End;
-use crate::first_form::{FirstForm, FormFault, RelationPart};
-use crate::kept::print_kept;
-use crate::read_form::read_form;
+use crate::relations::{FileStop, file_names, read_all, read_tables};
 use outside::{Folder, FolderFault, OutFault, Sink};
-use std::alloc::{AllocError, Global};
-use std::str;
-use tables::{Table, TableFault, read_table};
+use query_graph::Graph;
+use std::alloc::Global;
+use tables::Table;
 
-/// The command `plain`: reads the query, then its relation's file, and writes the rows that the filter keeps.
+/// The command `plain`: reads the query and then the files of its relations, and writes its answers.
 pub(crate) fn plain<F: Folder, O: Sink>(
     alloc: Global,
     query: &str,
     files: &mut F,
     out: &mut O,
 ) -> End
-    ensures end { EndsPlain (F.files files.old) query.now (O.taken out.old) (O.taken out.new)
+    ensures end { Ended (IsDue (F.files files.old) query.now) (O.taken out.old) (O.taken out.new)
         (Rose (F.faults files.old) (F.faults files.new) ⊎ Rose (O.faults out.old) (O.faults out.new)) result }
     ensures calls { PlainCalls (F.files files.old) query.now (F.calls files.old) (F.calls files.new) }
     ensures kept { F.files files.new ≡ F.files files.old }
@@ -33,52 +35,55 @@ pub(crate) fn plain<F: Folder, O: Sink>(
         Err(FolderFault::Failed) => return End::Outside,
         Err(FolderFault::Memory) => return End::Memory,
     };
-    match read_form(alloc, &text) {
-        Ok(form) => over_relation(alloc, &form, files, out),
-        Err(FormFault::NotBuilt) => End::NotBuilt,
-        Err(FormFault::Memory) => End::Memory,
+    match compile(alloc, &text) {
+        Ok(graph) => over_graph(alloc, &graph, files, out),
+        Err(Stop::Refused(line)) => End::Refused(line),
+        Err(Stop::Memory) => End::Memory,
     }
 }
 
-/// The same over a query of the first form.
-fn over_relation<F: Folder, O: Sink>(
-    alloc: Global,
-    form: &FirstForm,
-    files: &mut F,
-    out: &mut O,
-) -> End
-    requires { (text : List ℕ) × IsFirstForm text form.now }
-    ensures end { EndsForm (F.files files.old) form.now (O.taken out.old) (O.taken out.new)
+/// The same behind the text: over the query's graph.
+fn over_graph<F: Folder, O: Sink>(alloc: Global, graph: &Graph, files: &mut F, out: &mut O) -> End
+    requires named { AreNamed graph.now.nodes }
+    requires unbounded { first_bound graph.now.nodes ≡ None }
+    ensures end { Ended (IsDueOver (F.files files.old) graph.now) (O.taken out.old) (O.taken out.new)
         (Rose (F.faults files.old) (F.faults files.new) ⊎ Rose (O.faults out.old) (O.faults out.new)) result }
-    ensures calls { Called [] (F.calls files.old) (F.calls files.new) ⊎ Called (file_of form.now.relation.name ∷ []) (F.calls files.old) (F.calls files.new) }
+    ensures calls { CalledFront (files_of graph.now.nodes) (F.calls files.old) (F.calls files.new) }
     ensures kept { F.files files.new ≡ F.files files.old }
 {
-    let Ok(name) = file_name(alloc, &form.relation) else {
+    let Ok(names) = file_names(alloc, graph) else {
         return End::Memory;
     };
-    let bytes = match files.read(&name) {
-        Ok(bytes) => bytes,
-        Err(FolderFault::Failed) => return End::Outside,
-        Err(FolderFault::Memory) => return End::Memory,
-    };
-    match read_table(
-        alloc,
-        &bytes,
-        form.relation.columns(),
-        form.relation.declared(),
-    ) {
-        Ok(table) => over_table(alloc, form, &table, out),
-        Err(TableFault::NotTable) => End::NoTable(name),
-        Err(TableFault::Memory) => End::Memory,
+    match read_all(alloc, &names, files) {
+        Ok(bytes) => over_files(alloc, graph, &bytes, out),
+        Err(FolderFault::Failed) => End::Outside,
+        Err(FolderFault::Memory) => End::Memory,
     }
 }
 
-/// The same over the relation's table.
-fn over_table<O: Sink>(alloc: Global, form: &FirstForm, table: &Table, out: &mut O) -> End
-    requires { table.now.columns ≡ columns_of form.now.relation }
-    ensures { EndsTable (printed form.now table.now.rows) (O.taken out.old) (O.taken out.new) (Rose (O.faults out.old) (O.faults out.new)) result }
+/// The same behind the files: over their bytes.
+fn over_files<O: Sink>(alloc: Global, graph: &Graph, bytes: &[Vec<u8>], out: &mut O) -> End
+    requires named { AreNamed graph.now.nodes }
+    requires unbounded { first_bound graph.now.nodes ≡ None }
+    requires as_many { length bytes.now ≡ length (relations graph.now.nodes) }
+    ensures { Ended (λ verdict. verdict ≡ verdict_of graph.now (map (λ b. b.items) bytes.now)) (O.taken out.old) (O.taken out.new)
+        (Rose (O.faults out.old) (O.faults out.new)) result }
 {
-    let Ok(text) = print_kept(alloc, form, table) else {
+    match read_tables(alloc, graph, bytes) {
+        Ok(tables) => over_tables(alloc, graph, tables, out),
+        Err(FileStop::Faulty(line)) => End::Faulty(line),
+        Err(FileStop::Memory) => End::Memory,
+    }
+}
+
+/// The same behind the tables.
+fn over_tables<O: Sink>(alloc: Global, graph: &Graph, tables: Vec<Table>, out: &mut O) -> End
+    requires unbounded { first_bound graph.now.nodes ≡ None }
+    requires files { AreFiles graph.now.nodes tables.items }
+    ensures { Ended (λ verdict. verdict ≡ prints (printed graph.now tables.items)) (O.taken out.old) (O.taken out.new)
+        (Rose (O.faults out.old) (O.faults out.new)) result }
+{
+    let Ok(text) = answers(alloc, graph, tables) else {
         return End::Memory;
     };
     match out.write(&text) {
@@ -86,15 +91,4 @@ fn over_table<O: Sink>(alloc: Global, form: &FirstForm, table: &Table, out: &mut
         Err(OutFault::Failed) => End::Outside,
         Err(OutFault::Memory) => End::Memory,
     }
-}
-
-/// The name of the relation's file.
-fn file_name(alloc: Global, relation: &RelationPart) -> Result<String, AllocError>
-    requires { IsUtf8 relation.now.name }
-    ensures { IfOk result (λ name. string_bytes name ≡ file_of relation.now.name) }
-{
-    let Ok(name) = str::from_utf8(relation.name.bytes()) else {
-        unreachable!();
-    };
-    format!(in alloc; "{name}.csv")
 }

@@ -1,12 +1,40 @@
-use crate::conclave;
+use crate::{conclave, one_verdict, some_verdict, statuses_are_exact};
 use outside::{MemoryFolder, MemorySink};
 use std::alloc::{AllocError, Global};
 use std::test::Fail;
 
-const QUERY: &[u8] =
-    b"relation r of 1 rows 3 (x num, y num)\nf = filter r where x >= 2\noutput f to 1\n";
+const PEOPLE: &[u8] = b"ssn,zip\n100,02139\n101,02139\n102,94110\n103,10001\n";
 
-const FILE: &[u8] = b"x,y\n2,9\n1,8\n2,7\n";
+const SCORES2: &[u8] = b"ssn,score\n100,700\n101,650\n102,600\n";
+
+const SCORES3: &[u8] = b"ssn,score\n100,710\n102,640\n999,500\n";
+
+/// Credit scores by zip code: what three files of three owners say together.
+const SCORES: &[u8] = b"relation people of 1 rows 4 (ssn num, zip text)
+relation scores2 of 2 rows 3 (ssn num trust 1, score num)
+relation scores3 of 3 rows 3 (ssn num trust 1, score num)
+scores = concat scores2 scores3
+joined = join people scores on ssn
+byzip = group joined by zip (total = sum score, n = count)
+output byzip to 1
+";
+
+/// The same with a bound.
+const BOUNDED: &[u8] = b"relation people of 1 rows 4 (ssn num, zip text)
+relation scores2 of 2 rows 3 (ssn num trust 1, score num)
+relation scores3 of 3 rows 3 (ssn num trust 1, score num)
+scores = concat scores2 scores3
+joined = join people scores on ssn at most 6
+byzip = group joined by zip (total = sum score, n = count)
+output byzip to 1
+";
+
+/// Two relations and two outputs, which stand the other way round.
+const PAIR: &[u8] = b"relation a of 1 rows 2 (x num)
+relation b of 2 rows 2 (x num)
+output b to 3
+output a to 1 2
+";
 
 const USAGE: &[u8] =
     b"usage: conclave plan Q, plain Q, tape Q SEED T, run Q T [TURNS], audit Q PARTY A B T, replay Q PARTY T V, party Q PARTY T [PORT], make N\n";
@@ -61,64 +89,211 @@ fn run_words(
     })
 }
 
-fn plain(rt: &HostRuntime, query: &[u8], file: &[u8]) -> Result<Run, Fail> {
-    let files = [("q.txt", query), ("r.csv", file)];
-    run_words(rt.alloc(), &["plain", "q.txt"], &files, (&[], &[], &[]))
+/// `plain` of a query over the files a, b, people, scores2 and scores3.
+fn plain<'x>(alloc: Global, query: &'x [u8], a: &'x [u8], b: &'x [u8]) -> Result<Run, Fail> {
+    let files: [(&str, &'x [u8]); 6] = [
+        ("q.txt", query),
+        ("a.csv", a),
+        ("b.csv", b),
+        ("people.csv", PEOPLE),
+        ("scores2.csv", SCORES2),
+        ("scores3.csv", SCORES3),
+    ];
+    run_words(alloc, &["plain", "q.txt"], &files, (&[], &[], &[]))
 }
 
 #[test]
-fn prints_the_rows_that_the_filter_keeps(rt: HostRuntime) -> Result<(), Fail> {
-    let cases: [(&[u8], &[u8]); 6] = [
-        (b">= 2", b"f\nx,y\n2,7\n2,9\n"),
-        (b"> 2", b"f\nx,y\n"),
-        (b"<= 1", b"f\nx,y\n1,8\n"),
-        (b"< 2", b"f\nx,y\n1,8\n"),
-        (b"== 1", b"f\nx,y\n1,8\n"),
-        (b"!= 18446744073709551615", b"f\nx,y\n1,8\n2,7\n2,9\n"),
+fn prints_the_answers_of_every_statement(rt: HostRuntime) -> Result<(), Fail> {
+    // The query, the files of a and b, what is printed, and the names that are called.
+    let cases: [(&[u8], &[u8], &[u8], &[u8], &str); 12] = [
+        (
+            SCORES,
+            b"",
+            b"",
+            b"byzip\nzip,total,n\n02139,2060,3\n94110,1240,2\n",
+            "q.txt people.csv scores2.csv scores3.csv ",
+        ),
+        (
+            PAIR,
+            b"x\n5\n4\n",
+            b"x\n7\n",
+            b"b\nx\n7\na\nx\n4\n5\n",
+            "q.txt a.csv b.csv ",
+        ),
+        (
+            b"relation a of 1 rows 3 (x num, y num)\nf = filter a where x >= 2 and y != 9\noutput f to 1",
+            b"x,y\n2,9\n1,8\n2,7\n",
+            b"",
+            b"f\nx,y\n2,7\n",
+            "q.txt a.csv ",
+        ),
+        (
+            b"relation a of 1 rows 2 (x num)\ng = group a (s = sum x)\noutput g to 1\n",
+            b"x\n18446744073709551615\n2\n",
+            b"",
+            b"g\ns\n1\n",
+            "q.txt a.csv ",
+        ),
+        (
+            b"relation a of 1 rows 2 (x num)\ng = group a (s = sum x, n = count)\noutput g to 1\n",
+            b"x\n",
+            b"",
+            b"g\ns,n\n",
+            "q.txt a.csv ",
+        ),
+        (
+            b"relation a of 1 rows 4 (k num)\nj = join a a on k\noutput j to 1\n",
+            b"k\n7\n7\n9\n",
+            b"",
+            b"j\nk\n7\n7\n7\n7\n9\n",
+            "q.txt a.csv ",
+        ),
+        (
+            b"relation a of 1 rows 3 (z num)\noutput a to 1\n",
+            b"z\n02139\n18446744073709551615\n",
+            b"",
+            b"a\nz\n2139\n18446744073709551615\n",
+            "q.txt a.csv ",
+        ),
+        (
+            b"relation a of 1 rows 3 (t text)\noutput a to 1\n",
+            b"\xef\xbb\xbft\r\n\"ab,cdefg\"\r\n\"\"\r\n",
+            b"",
+            b"a\nt\n\"\"\n\"ab,cdefg\"\n",
+            "q.txt a.csv ",
+        ),
+        (
+            b"relation a of 1 rows 2 (x num)\nrelation b of 2 rows 2 (x num)\nc = concat a b\nd = distinct c\ns = select d (x, y = x * 3)\noutput s to 3\n",
+            b"x\n5\n7\n",
+            b"x\n7\n9\n",
+            b"s\nx,y\n5,15\n7,21\n9,27\n",
+            "q.txt a.csv b.csv ",
+        ),
+        (
+            b"relation a of 1 rows 4 (k num, v num)\ng = group a by k (l = least v, m = greatest v, n = count)\noutput g to 1\n",
+            b"k,v\n2,5\n1,8\n2,3\n2,9\n",
+            b"",
+            b"g\nk,l,m,n\n1,8,8,1\n2,3,9,3\n",
+            "q.txt a.csv ",
+        ),
+        (
+            b"relation a of 1 rows 3 (t text)\ns = select a (t, is = t == \"m\", less = t < \"m\")\noutput s to 1\n",
+            b"t\nm\nab\nx\n",
+            b"",
+            b"s\nt,is,less\nab,0,1\nm,1,0\nx,0,0\n",
+            "q.txt a.csv ",
+        ),
+        (
+            b"relation a of 1 rows 2 (x num)\ns = select a (y = x - 3, z = x + 18446744073709551615)\noutput s to 1\n",
+            b"x\n2\n5\n",
+            b"",
+            b"s\ny,z\n2,4\n18446744073709551615,1\n",
+            "q.txt a.csv ",
+        ),
     ];
-    for (test, want) in cases {
-        let mut query = Vec::from_slice(
-            rt.alloc(),
-            b"relation r of 1 rows 3 (x num, y num)\nf = filter r where x ",
-        )?;
-        query.extend_from_slice(test)?;
-        query.extend_from_slice(b"\noutput f to 3\n")?;
-        let run = plain(&rt, &query, FILE)?;
-        assert_eq!(rt; run.status, 0);
+    for (query, a, b, want, calls) in cases {
+        let run = plain(rt.alloc(), query, a, b)?;
         assert!(rt; run.out.as_slice() == want);
+        assert_eq!(rt; run.status, 0);
         assert!(rt; run.err.is_empty());
-        assert_eq!(rt; run.calls.as_str(), "q.txt r.csv ");
+        assert_eq!(rt; run.calls.as_str(), calls);
     }
     Ok(())
 }
 
 #[test]
-fn tells_each_refusal_in_one_line(rt: HostRuntime) -> Result<(), Fail> {
-    let cut: &[u8] =
-        b"relation r of 1 rows 3 (x num, y num)\nf = filter r where x >= 2\noutput f to 1";
-    let four: &[u8] = b"x,y\n2,9\n1,8\n2,7\n2,7\n";
-    // The query, the relation's file, and how many of the two are there.
-    let cases: [(&[u8], &[u8], usize, u8, &[u8], &str); 4] = [
+fn refuses_a_query_in_one_line(rt: HostRuntime) -> Result<(), Fail> {
+    let cases: [(&[u8], &[u8]); 11] = [
+        (b"output", b"refused: Q1 line 1 column 7: text\n"),
+        (b"# nothing\n\x80", b"refused: Q1 line 2 column 1: text\n"),
         (
-            QUERY,
-            four,
-            2,
-            3,
-            b"file r.csv: not a table\n",
-            "q.txt r.csv ",
+            b"relation a of 1 rows 2 (x num)\noutput b to 1\n",
+            b"refused: Q2 line 2: b is unknown\n",
         ),
-        (cut, FILE, 2, 2, b"refused: not built line 0\n", "q.txt "),
-        (QUERY, FILE, 0, 8, b"outside fault\n", "q.txt "),
-        (QUERY, FILE, 1, 8, b"outside fault\n", "q.txt r.csv "),
+        (
+            b"relation a of 1 rows 2 (x num)\nrelation a of 2 rows 2 (x num)\n",
+            b"refused: Q3 line 2: a is taken\n",
+        ),
+        (
+            b"relation a of 1 rows 2 (x num)\nf = filter a where x == \"2\"\n",
+            b"refused: Q4 line 2: kind\n",
+        ),
+        (
+            b"relation a of 1 rows 2 (x num)\nrelation b of 1 rows 2 (y num)\nc = concat a b\n",
+            b"refused: Q5 line 3: shape\n",
+        ),
+        (
+            b"relation a of 1 rows 65536 (k num, v num)\nrelation b of 2 rows 2 (k num, w num)\nj = join a b on k\n",
+            b"refused: Q6 line 3: size\n",
+        ),
+        (b"", b"refused: Q10: no output\n"),
+        (BOUNDED, b"refused: not built line 5\n"),
+        (
+            b"relation a of 1 rows 2 (x num)\ng = group a by x (n = count) parts at most 1\nd = distinct a at most 1\noutput d to 1\n",
+            b"refused: not built line 2\n",
+        ),
+        (
+            b"relation a of 1 rows 2 (x num)\nf = filter a where x > 2 at most 3\n",
+            b"refused: Q10: no output\n",
+        ),
     ];
-    for (query, file, present, status, line, calls) in cases {
-        let files = [("q.txt", query), ("r.csv", file)];
-        let present = &files[..present.min(2)];
-        let run = run_words(rt.alloc(), &["plain", "q.txt"], present, (&[], &[], &[]))?;
-        assert_eq!(rt; run.status, status);
-        assert!(rt; run.out.is_empty());
+    for (query, line) in cases {
+        let run = plain(rt.alloc(), query, b"x\n1\n", b"")?;
         assert!(rt; run.err.as_slice() == line);
-        assert_eq!(rt; run.calls.as_str(), calls);
+        assert_eq!(rt; run.status, 2);
+        assert!(rt; run.out.is_empty());
+        assert_eq!(rt; run.calls.as_str(), "q.txt ");
+    }
+    Ok(())
+}
+
+#[test]
+fn names_the_first_fault_of_the_first_file_that_has_one(rt: HostRuntime) -> Result<(), Fail> {
+    let query: &[u8] =
+        b"relation a of 1 rows 2 (x num, t text)\nrelation b of 2 rows 3 (z num)\noutput b to 1\n";
+    let good: &[u8] = b"x,t\n1,\n";
+    // The files of a and b, and the line.
+    let cases: [(&[u8], &[u8], &[u8]); 9] = [
+        (b"", b"z\nx\n", b"file a.csv: header\n"),
+        (b"x,t\n1\n", b"", b"file a.csv: record 2: fields\n"),
+        (
+            b"x,t\n1,a\n2,b\n3,c\n",
+            b"z\n",
+            b"file a.csv: 3 records, at most 2\n",
+        ),
+        (
+            b"x,t\n,a\n",
+            b"z\n",
+            b"file a.csv: record 2 column x: not a number\n",
+        ),
+        (
+            b"x,t\n1,\xc3\xa9\n",
+            b"z\n",
+            b"file a.csv: record 2 column t: text byte\n",
+        ),
+        (
+            b"x,t\n1,abcdefghi\n",
+            b"z\n",
+            b"file a.csv: record 2 column t: text too long\n",
+        ),
+        (
+            good,
+            b"z\n1\n2\n18446744073709551616\n",
+            b"file b.csv: record 4 column z: too large\n",
+        ),
+        (
+            good,
+            b"z\n1\n2\n3\n4\n",
+            b"file b.csv: 4 records, at most 3\n",
+        ),
+        (good, b"y\n", b"file b.csv: header\n"),
+    ];
+    for (a, b, line) in cases {
+        let run = plain(rt.alloc(), query, a, b)?;
+        assert!(rt; run.err.as_slice() == line);
+        assert_eq!(rt; run.status, 3);
+        assert!(rt; run.out.is_empty());
+        assert_eq!(rt; run.calls.as_str(), "q.txt a.csv b.csv ");
     }
     Ok(())
 }
@@ -135,7 +310,7 @@ fn tells_the_usage_to_words_that_are_no_form(rt: HostRuntime) -> Result<(), Fail
         &["plain", "q.txt", "t"],
     ];
     for words in cases {
-        let run = run_words(rt.alloc(), words, &[("q.txt", QUERY)], (&[], &[], &[]))?;
+        let run = run_words(rt.alloc(), words, &[("q.txt", PAIR)], (&[], &[], &[]))?;
         assert_eq!(rt; run.status, 1);
         assert!(rt; run.out.is_empty());
         assert!(rt; run.err.as_slice() == USAGE);
@@ -146,69 +321,37 @@ fn tells_the_usage_to_words_that_are_no_form(rt: HostRuntime) -> Result<(), Fail
 
 #[test]
 fn tells_each_failing_call_as_a_fault_of_the_outside(rt: HostRuntime) -> Result<(), Fail> {
-    let files: [(&str, &[u8]); 2] = [("q.txt", QUERY), ("r.csv", FILE)];
-    let cases: [(Failing<'_>, u8, &[u8]); 4] = [
+    let files: [(&str, &[u8]); 3] = [("q.txt", PAIR), ("a.csv", b"x\n1\n"), ("b.csv", b"x\n2\n")];
+    let cases: [(Failing<'_>, u8, &[u8]); 6] = [
         ((&[0], &[], &[]), 8, b"outside fault\n"),
         ((&[1], &[], &[]), 8, b"outside fault\n"),
+        ((&[2], &[], &[]), 8, b"outside fault\n"),
         ((&[], &[0], &[]), 8, b"outside fault\n"),
         ((&[], &[0], &[0]), 8, b""),
+        ((&[3], &[1], &[0]), 0, b""),
     ];
     for (failing, status, line) in cases {
         let run = run_words(rt.alloc(), &["plain", "q.txt"], &files, failing)?;
         assert_eq!(rt; run.status, status);
-        assert!(rt; run.out.is_empty());
+        assert!(rt; (status == 0) || run.out.is_empty());
         assert!(rt; run.err.as_slice() == line);
     }
-    Ok(())
-}
-
-#[test]
-fn takes_no_text_but_the_one_spelling(rt: HostRuntime) -> Result<(), Fail> {
-    let good: [&[u8]; 3] = [
-        b"relation r of 3 rows 65536 (x num)\n_F9 = filter r where x == 0\noutput _F9 to 1\n",
-        b"relation abcdefghijklmnopqrstuvwxyz_12345 of 2 rows 1 (a num, b num)\nf = filter abcdefghijklmnopqrstuvwxyz_12345 where b != 18446744073709551615\noutput f to 2\n",
-        b"relation r of 1 rows 65535 (a num, b num, c num, d num, e num, f num, g num, h num, i num, j num, k num, l num, m num, n num, o num, p num, q num, r num, s num, t num, u num, v num, w num, x num, y num, z num, A num, B num, C num, D num, E num)\nF = filter r where E <= 7\noutput F to 1\n",
-    ];
-    for text in good {
-        let run = plain(&rt, text, b"")?;
-        assert!(rt; run.status == 3 || run.status == 8);
+    for (present, calls) in [
+        (0, "q.txt "),
+        (1, "q.txt a.csv "),
+        (2, "q.txt a.csv b.csv "),
+    ] {
+        let run = run_words(
+            rt.alloc(),
+            &["plain", "q.txt"],
+            &files[..present],
+            (&[], &[], &[]),
+        )?;
+        assert_eq!(rt; run.status, 8);
+        assert_eq!(rt; run.calls.as_str(), calls);
     }
-    let near: [&[u8]; 30] = [
-        b"",
-        b"\n",
-        b"relation r of 1 rows 3 (x num)\n",
-        b" relation r of 1 rows 3 (x num)\nf = filter r where x > 2\noutput f to 1\n",
-        b"relation r of 1 rows 3 (x num) \nf = filter r where x > 2\noutput f to 1\n",
-        b"relation  r of 1 rows 3 (x num)\nf = filter r where x > 2\noutput f to 1\n",
-        b"relation\tr of 1 rows 3 (x num)\nf = filter r where x > 2\noutput f to 1\n",
-        b"relation r of 1 rows 3 ( x num)\nf = filter r where x > 2\noutput f to 1\n",
-        b"relation r of 1 rows 3 (x num )\nf = filter r where x > 2\noutput f to 1\n",
-        b"relation r of 1 rows 3 (x num,y num)\nf = filter r where x > 2\noutput f to 1\n",
-        b"relation r of 1 rows 3 (x num , y num)\nf = filter r where x > 2\noutput f to 1\n",
-        b"relation r of 1 rows 3 (x text)\nf = filter r where x > 2\noutput f to 1\n",
-        b"relation r of 1 rows 3 ()\nf = filter r where x > 2\noutput f to 1\n",
-        b"relation r of 0 rows 3 (x num)\nf = filter r where x > 2\noutput f to 1\n",
-        b"relation r of 4 rows 3 (x num)\nf = filter r where x > 2\noutput f to 1\n",
-        b"relation r of 01 rows 3 (x num)\nf = filter r where x > 2\noutput f to 1\n",
-        b"relation r of 1 rows 0 (x num)\nf = filter r where x > 2\noutput f to 1\n",
-        b"relation r of 1 rows 65537 (x num)\nf = filter r where x > 2\noutput f to 1\n",
-        b"relation r of 1 rows 03 (x num)\nf = filter r where x > 2\noutput f to 1\n",
-        b"relation r of 1 rows 3 (x num, x num)\nf = filter r where x > 2\noutput f to 1\n",
-        b"relation r of 1 rows 3 (x num)\nf = filter s where x > 2\noutput f to 1\n",
-        b"relation r of 1 rows 3 (x num)\nr = filter r where x > 2\noutput r to 1\n",
-        b"relation r of 1 rows 3 (x num)\nf = filter r where y > 2\noutput f to 1\n",
-        b"relation r of 1 rows 3 (x num)\nf = filter r where x => 2\noutput f to 1\n",
-        b"relation r of 1 rows 3 (x num)\nf = filter r where x > 18446744073709551616\noutput f to 1\n",
-        b"relation r of 1 rows 3 (x num)\nf = filter r where x > 2\noutput g to 1\n",
-        b"relation r of 1 rows 3 (x num)\r\nf = filter r where x > 2\r\noutput f to 1\r\n",
-        b"relation r of 1 rows 3 (x num)\nf = filter r where x > 2\noutput f to 1\n\n",
-        b"relation rows of 1 rows 3 (x num)\nf = filter rows where x > 2\noutput f to 1\n",
-        b"relation abcdefghijklmnopqrstuvwxyz_123456 of 1 rows 3 (x num)\nf = filter abcdefghijklmnopqrstuvwxyz_123456 where x > 2\noutput f to 1\n",
-    ];
-    for text in near {
-        let run = plain(&rt, text, b"x\n3\n")?;
-        assert_eq!(rt; run.status, 2);
-        assert_eq!(rt; run.calls.as_str(), "q.txt ");
-    }
+    one_verdict();
+    some_verdict();
+    statuses_are_exact();
     Ok(())
 }

@@ -1,0 +1,193 @@
+-- The tables of relations' files make a world, and its plain rows are what is printed.
+use Rattle.std.proofs.Common.{◌≡◌, ℕ, zero, suc, ◌+◌, ◌<◌, ◌≤◌, Bool, true, false, ◌||◌, if◌then◌else◌, nat_lt, arith, List, [], ◌∷◌, ◌++◌, length, map, take, get_or, Option, Some, None, Result, Ok, Err, refl, sym, ap, ◌∙◌, subst}
+use Rattle.std.specs.Prelude.{slice_get, slice_index_or, All, ◌==◌}
+use Rattle.std.proofs.lemmas.List.Elements.{All-nil}
+use Rattle.conclave_top.proofs.NodeNames.{all_cons}
+use Rattle.std.specs.List.{AllZip}
+use Rattle.std.proofs.lemmas.Grind.{common_steps}
+use Rattle.std.proofs.lemmas.List.{length-append, length-map, take_all}
+use Rattle.words.specs.Columns.{kinds_of, names_of, word_of}
+use Rattle.words.specs.declared.column.Column.{Column}
+use Rattle.words.specs.declared.column.Kind.{Kind}
+use Rattle.query_graph.specs.Content.{Content}
+use Rattle.query_graph.specs.declared.node.Node.{Node}
+use Rattle.query_graph.specs.declared.operator.Operator.{Operator}
+use Rattle.query_graph.specs.declared.operator.Operator.TheVariants as operators
+use Rattle.tables.specs.Content as table
+use Rattle.tables.specs.File.{table_in}
+use Rattle.tables.specs.File as file
+use Rattle.tables.specs.Outcome.{and_then, map_ok}
+use Rattle.tables.specs.declared.fault.TableFault.{TableFault}
+use Rattle.plain_meaning.specs.Fits.{AreFiles, IsFileOf}
+use Rattle.plain_meaning.specs.Meaning.{files_after, meanings, meanings_after, node_rows, rows_of}
+use Rattle.plain_meaning.specs.Plain.{Ends, IsPlain, bound_of, is_over}
+use Rattle.conclave_top.specs.Answers.{AreNodeTables}
+use Rattle.conclave_top.specs.Compile.{first_bound, is_bounded, is_written}
+use Rattle.conclave_top.specs.Relations.{or_line, table_of, tables_of}
+
+zero_is_not_suc : (n : ℕ) → 0 ≡ suc n → ⊥
+zero_is_not_suc n same = omega arith
+
+same_pred : (m n : ℕ) → suc m ≡ suc n → m ≡ n
+same_pred m n same = omega arith
+
+true_is_not_false : true ≡ false → ⊥
+true_is_not_false same = cc
+
+-- a table that is read has its relation's columns, and no more rows than declared
+-- a table of these columns and of at most so many rows, each as long as the columns
+record Fits (columns : List Column) (declared : ℕ) (t : table.Content) : Type 0 where
+  pub same : t.columns ≡ columns
+  pub few : length t.rows ≤ declared
+  pub wide : All (λ row. length row ≡ length t.columns) t.rows
+
+count_step : {A : Type 0} (first : Result A TableFault) (others : Result (List A) TableFault) (n : ℕ) (all : List A) → ((more : List A) → others ≡ Ok more → length more ≡ n)
+    → and_then first (λ x. map_ok (λ xs. x ∷ xs) others) ≡ Ok all → length all ≡ suc n
+count_step (Ok x) (Ok more) n all count is =
+    let same : x ∷ more ≡ all = cc in
+    sym (ap length same) ∙ ap suc (count more refl)
+count_step (Ok x) (Err fault) n all count is = cc
+count_step (Err fault) others n all count is = cc
+
+words_count : (line column : ℕ) (kinds : List Kind) (fields : List (List ℕ)) (words : List ℕ) → file.words_of line column kinds fields ≡ Ok words → length words ≡ length kinds
+words_count line column [] fields words is =
+    let same : [] ≡ words = cc in
+    sym (ap length same)
+words_count line column (kind ∷ kinds) [] words is = cc
+words_count line column (kind ∷ kinds) (field ∷ fields) words is =
+    count_step (file.at_place line column (word_of kind field)) (file.words_of line (column + 1) kinds fields) (length kinds) words
+    (λ more here. words_count line (column + 1) kinds fields more here) is
+
+row_step : (line : ℕ) (kinds : List Kind) (fields : List (List ℕ)) (fits : Bool) (row : List ℕ)
+    → (if fits then file.words_of line 0 kinds fields else Err (file.fields_fault line)) ≡ Ok row → length row ≡ length kinds
+row_step line kinds fields true row is = words_count line 0 kinds fields row is
+row_step line kinds fields false row is = cc
+
+row_count : (line : ℕ) (kinds : List Kind) (fields : List (List ℕ)) (row : List ℕ) → file.row_of line kinds fields ≡ Ok row → length row ≡ length kinds
+row_count line kinds fields row is = row_step line kinds fields (length fields == length kinds) row is
+
+wide_step : (width : ℕ) (first : Result (List ℕ) TableFault) (others : Result (List (List ℕ)) TableFault) (rows : List (List ℕ)) → ((row : List ℕ) → first ≡ Ok row → length row ≡ width)
+    → ((more : List (List ℕ)) → others ≡ Ok more → All (λ row. length row ≡ width) more) → and_then first (λ row. map_ok (λ rows. row ∷ rows) others) ≡ Ok rows → All (λ row. length row ≡ width) rows
+wide_step width (Ok row) (Ok more) rows here behind is =
+    let same : row ∷ more ≡ rows = cc in
+    subst (All (λ row. length row ≡ width)) same (all_cons (λ row. length row ≡ width) row more (here row refl) (behind more refl))
+wide_step width (Ok row) (Err fault) rows here behind is = cc
+wide_step width (Err fault) others rows here behind is = cc
+
+rows_wide : (line : ℕ) (kinds : List Kind) (records : List (List (List ℕ))) (rows : List (List ℕ)) → file.rows_of line kinds records ≡ Ok rows → All (λ row. length row ≡ length kinds) rows
+rows_wide line kinds [] rows is =
+    let same : [] ≡ rows = cc in
+    subst (All (λ row. length row ≡ length kinds)) same (All-nil (λ row. length row ≡ length kinds))
+rows_wide line kinds (first ∷ rest) rows is =
+    wide_step (length kinds) (file.row_of line kinds first) (file.rows_of (line + 1) kinds rest) rows (row_count line kinds first) (λ more here. rows_wide (line + 1) kinds rest more here) is
+
+rows_count : (line : ℕ) (kinds : List Kind) (records : List (List (List ℕ))) (rows : List (List ℕ)) → file.rows_of line kinds records ≡ Ok rows → length rows ≡ length records
+rows_count line kinds [] rows is =
+    let same : [] ≡ rows = cc in
+    sym (ap length same)
+rows_count line kinds (first ∷ rest) rows is =
+    count_step (file.row_of line kinds first) (file.rows_of (line + 1) kinds rest) (length rest) rows (λ more here. rows_count (line + 1) kinds rest more here) is
+
+under_step : (columns : List Column) (declared : ℕ) (rest : List (List (List ℕ))) (over : Bool) (rows : Result (List (List ℕ)) TableFault) (t : table.Content) → nat_lt declared (length rest) ≡ over
+    → file.rows_of 2 (kinds_of columns) rest ≡ rows
+    → and_then (if over then Err (file.rows_fault declared (length rest)) else Ok (tt {0})) (λ _. map_ok (λ rows. record { columns = columns; rows = rows }) rows) ≡ Ok t
+    → Fits columns declared t
+under_step columns declared rest true rows t far read is = cc
+under_step columns declared rest false (Err fault) t far read is = cc
+under_step columns declared rest false (Ok rows) t far read is =
+    let made : table.Content = record { columns = columns; rows = rows } in
+    let same : made ≡ t = cc in
+    let few : length rest ≤ declared = grind (arith, common_steps) in
+    let wide : All (λ row. length row ≡ length columns) rows =
+    subst (λ n. All (λ row. length row ≡ n) rows) (length-map columns (λ (c : Column). c.kind)) (rows_wide 2 (kinds_of columns) rest rows read) in
+    subst (Fits columns declared) same (record { same = refl; few = subst (λ n. n ≤ declared) (sym (rows_count 2 (kinds_of columns) rest rows read)) few; wide = wide })
+
+header_step : (columns : List Column) (declared : ℕ) (rest : List (List (List ℕ))) (named : Bool) (t : table.Content)
+    → (if named then file.table_under columns declared rest else Err file.header_fault) ≡ Ok t → Fits columns declared t
+header_step columns declared rest false t is = cc
+header_step columns declared rest true t is =
+    under_step columns declared rest (nat_lt declared (length rest)) (file.rows_of 2 (kinds_of columns) rest) t refl refl is
+
+records_fit : (columns : List Column) (declared : ℕ) (records : List (List (List ℕ))) (t : table.Content) → file.table_of columns declared records ≡ Ok t
+    → Fits columns declared t
+records_fit columns declared [] t is = cc
+records_fit columns declared (header ∷ rest) t is = header_step columns declared rest (file.is_header (names_of columns) header) t is
+
+table_fits : (node : Node) (bytes : List ℕ) (t : table.Content) → table_in node.columns node.rows bytes ≡ Ok t → IsFileOf node t
+table_fits node bytes t is =
+    let fits = records_fit node.columns node.rows _ t is in
+    record { columns = fits.same; rows = fits.few; rectangular = fits.wide }
+
+files_step : (node : Node) (nodes : List Node) (first : Result table.Content TableFault) (others : Result (List table.Content) (List ℕ)) (tables : List table.Content)
+    → ((t : table.Content) → first ≡ Ok t → IsFileOf node t) → ((more : List table.Content) → others ≡ Ok more → AllZip IsFileOf nodes more)
+    → and_then (or_line node first) (λ t. map_ok (λ tables. t ∷ tables) others) ≡ Ok tables → AllZip IsFileOf (node ∷ nodes) tables
+files_step node nodes (Err fault) others tables here behind is = cc
+files_step node nodes (Ok t) (Err line) tables here behind is = cc
+files_step node nodes (Ok t) (Ok more) tables here behind is =
+    let same : t ∷ more ≡ tables = cc in
+    subst (AllZip IsFileOf (node ∷ nodes)) same (here t refl, behind more refl)
+
+-- the tables of all relations' files are what a world is made of
+pub files_are : (nodes : List Node) (bytes : List (List ℕ)) (tables : List table.Content) → length bytes ≡ length nodes → tables_of nodes bytes ≡ Ok tables → AllZip IsFileOf nodes tables
+files_are [] bytes tables count is =
+    let same : [] ≡ tables = cc in
+    subst (AllZip IsFileOf []) same tt
+files_are (node ∷ nodes) [] tables count is = absurd (zero_is_not_suc (length nodes) count)
+files_are (node ∷ nodes) (first ∷ bytes) tables count is =
+    files_step node nodes (table_in node.columns node.rows first) (tables_of nodes bytes) tables (table_fits node first)
+    (λ more here. files_are nodes bytes more (same_pred (length bytes) (length nodes) count) here) is
+
+unbounded_step : (node : Node) (nodes : List Node) (here : Bool) → is_bounded node.shape ≡ here → (if here then Some node.line else first_bound nodes) ≡ None → (here ≡ false) × (first_bound nodes ≡ None)
+unbounded_step node nodes true is none = cc
+unbounded_step node nodes false is none = (refl, none)
+
+unbounded_at : (nodes : List Node) (i : ℕ) (node : Node) → first_bound nodes ≡ None → slice_get nodes i ≡ Some node → is_bounded node.shape ≡ false
+unbounded_at [] i node none here = cc
+unbounded_at (first ∷ nodes) zero node none here =
+    let same : first ≡ node = cc in
+    ap (λ (n : Node). is_bounded n.shape) (sym same) ∙ (unbounded_step first nodes (is_bounded first.shape) refl none).0
+unbounded_at (first ∷ nodes) (suc i) node none here = unbounded_at nodes i node (unbounded_step first nodes (is_bounded first.shape) refl none).1 here
+
+not_written : {A : Type 0} (o : Option A) → is_written o ≡ false → o ≡ None
+not_written None is = refl
+not_written (Some x) is = cc
+
+or_right : (a b : Bool) → (a || b) ≡ false → b ≡ false
+or_right true b is = cc
+or_right false b is = is
+
+no_bound : (shape : Operator) → is_bounded shape ≡ false → bound_of shape ≡ None
+no_bound (operators.Relation r) is = refl
+no_bound (operators.Filter f) is = not_written f.at_most is
+no_bound (operators.Select s) is = refl
+no_bound (operators.Concat c) is = refl
+no_bound (operators.Join j) is = not_written j.at_most is
+no_bound (operators.Group g) is = not_written g.at_most (or_right (is_written g.parts_at_most) (is_written g.at_most) is)
+no_bound (operators.Distinct d) is = not_written d.at_most is
+
+-- without a bound the tables end with the nodes
+all_nodes : (nodes : List Node) (rows : List (List (List ℕ))) (count : ℕ) (over : Option ℕ) → first_bound nodes ≡ None → Ends nodes rows count over → count ≡ length nodes
+all_nodes nodes rows count None none ends = ends
+all_nodes nodes rows count (Some o) none ends =
+    let within : is_over (bound_of ends.1.0.shape) (rows_of rows o) ≡ false = ap (λ b. is_over b (rows_of rows o)) (no_bound ends.1.0.shape (unbounded_at nodes o ends.1.0 none ends.1.1)) in
+    absurd (true_is_not_false (sym ends.1.2 ∙ within))
+
+meanings_count : (earlier files : List (List (List ℕ))) (nodes : List Node) → length (meanings_after earlier files nodes) ≡ length earlier + length nodes
+meanings_count earlier files [] = omega arith
+meanings_count earlier files (node ∷ nodes) =
+    let rows = node_rows node.shape (slice_index_or files 0 []) earlier in
+    meanings_count (earlier ++ rows ∷ []) (files_after node.shape files) nodes ∙ ap (λ n. n + length nodes) (length-append earlier (rows ∷ [])) ∙ omega arith
+
+-- the plain rows of a graph without a bound are those of all nodes
+pub all_tables : (nodes : List Node) (world : List (List (List ℕ))) (tables : List table.Content) (over : Option ℕ) → first_bound nodes ≡ None → IsPlain nodes world tables over
+    → AreNodeTables nodes tables
+all_tables nodes world tables over none plain =
+    let count : length tables ≡ length nodes = all_nodes nodes (meanings nodes world) (length tables) over none plain.ends in
+    plain.columns ∙ ap (λ n. map (λ (n : Node). n.columns) (take n nodes)) count ∙ ap (map (λ (n : Node). n.columns)) (take_all (length nodes) nodes (omega arith))
+
+pub all_rows : (nodes : List Node) (world : List (List (List ℕ))) (tables : List table.Content) (over : Option ℕ) → first_bound nodes ≡ None → IsPlain nodes world tables over
+    → map (λ (t : table.Content). t.rows) tables ≡ meanings nodes world
+all_rows nodes world tables over none plain =
+    let count : length tables ≡ length nodes = all_nodes nodes (meanings nodes world) (length tables) over none plain.ends in
+    let full : length (meanings nodes world) ≤ length tables = omega (arith, count, meanings_count [] world nodes) in
+    plain.rows ∙ take_all (length tables) (meanings nodes world) full

@@ -1,5 +1,0 @@
-use Rattle.conclave_top.proofs.Exact as exact
-use Rattle.conclave_top.proofs.command.statuses_are_exact.Goals as goal
-
-pub returns : goal.returns
-returns c = exact.statuses_are_exact
