@@ -3,3 +3,4 @@ pub mod Release
 pub mod Trust
 pub mod Faults
 pub mod Laws
+pub mod Under

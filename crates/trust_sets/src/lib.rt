@@ -22,5 +22,5 @@ mod withheld;
 pub use check::check_trust;
 pub use derive::derive_trust;
 pub use fault::TrustFault;
-pub use laws::{columns_within_rows, what_rows_need};
+pub use laws::{columns_within_rows, what_rows_need, withheld_is_first};
 pub use trust::Trust;
