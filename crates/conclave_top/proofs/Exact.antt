@@ -1,8 +1,8 @@
 -- Each status comes exactly where it is due.
-use Rattle.std.proofs.Common.{◌≡◌, ℕ, List, Option, Some, None, ◌⊎◌, inl, inr, refl, ap, sym, ◌∙◌, subst}
+use Rattle.std.proofs.Common.{◌≡◌, ℕ, List, Option, Some, None, ◌⊎◌, inl, inr, refl, sym, ◌∙◌, subst}
 use Rattle.outside.specs.Folder.{Files}
 use Rattle.conclave_top.specs.Command.{Command, plain, command_of}
-use Rattle.conclave_top.specs.Laws.{Came, Comes, OneVerdict, PlainRun, StatusesAreExact}
+use Rattle.conclave_top.specs.Laws.{Came, Comes, OneVerdict, StatusesAreExact}
 use Rattle.conclave_top.specs.Outcome.{Outcome, OutcomeOf, PlainIsSettled, PlainOutcome, Settles}
 use Rattle.conclave_top.specs.Outside.{Outside, HasFailed}
 use Rattle.conclave_top.specs.Plain.{Verdict, refuses, faults, prints, IsDue}

@@ -1,12 +1,10 @@
 -- The tables of relations' files, one after the other.
-use Rattle.std.proofs.Common.{◌≡◌, ℕ, ◌+◌, ◌<◌, ◌≤◌, List, [], ◌∷◌, ◌++◌, length, map, drop, take, get_or, suc, Option, Some, None, Result, Ok, Err, refl, sym, ap, ◌∙◌, add-one, append_assoc, arith, filter}
-use Rattle.std.specs.Prelude.{slice_get}
+use Rattle.std.proofs.Common.{◌≡◌, ℕ, ◌+◌, ◌<◌, ◌≤◌, List, [], ◌∷◌, ◌++◌, length, drop, get_or, suc, Result, Ok, Err, refl, sym, ap, ◌∙◌, add-one, append_assoc}
 use Rattle.std.proofs.Math.Seq.{drop-cons}
 use Rattle.std.proofs.lemmas.List.{append-nil, at_drop_all}
 use Rattle.query_graph.specs.declared.node.Node.{Node}
 use Rattle.tables.specs.Content.{Content}
 use Rattle.tables.specs.Outcome.{and_then, map_ok}
-use Rattle.tables.specs.declared.table.Table.{Table}
 use Rattle.conclave_top.specs.declared.relations.FileStop.{FileStop}
 use Rattle.conclave_top.specs.declared.relations.FileStop.TheVariants.{Faulty, Memory}
 use Rattle.conclave_top.specs.Relations.{GivesTable, GivesTables, table_of, tables_of}

@@ -1,7 +1,7 @@
 -- Names of nodes are texts.
-use Rattle.std.proofs.Common.{◌≡◌, ◌+◌, ◌⊎◌, inl, inr, ◌≢◌, Bor, ℕ, zero, suc, ◌<◌, ◌≤◌, Bool, true, false, not, ◌&&◌, List, [], ◌∷◌, length, map, filter, Some, refl, ap, sym, ◌∙◌, subst, arith, lit<, slice_index_or}
-use Rattle.std.specs.Prelude.{IfOk, Result, Ok, Err, All, slice_get, IsTrue}
-use Rattle.std.specs.List.{AllByRecursion, AllZip, list_all}
+use Rattle.std.proofs.Common.{◌≡◌, ◌+◌, inl, inr, ◌≢◌, Bor, ℕ, zero, suc, ◌<◌, Bool, true, false, not, ◌&&◌, List, [], ◌∷◌, map, filter, refl, ap, sym, ◌∙◌, subst, arith, lit<, slice_index_or}
+use Rattle.std.specs.Prelude.{IfOk, Result, Ok, Err, All}
+use Rattle.std.specs.List.{AllZip, list_all}
 use Rattle.std.specs.Str.{IsAscii, IsUtf8}
 use Rattle.std.proofs.lemmas.Grind.{common_steps}
 use Rattle.std.proofs.lemmas.List.{get_or-map}
@@ -9,17 +9,16 @@ use Rattle.std.proofs.lemmas.Simd.{map-map}
 use Rattle.std.proofs.lemmas.List.Elements.{All-filter, All-nil}
 use Rattle.std.proofs.lemmas.Option.{slice_get-get_or}
 use Rattle.std.proofs.lemmas.Str.{IsUtf8-from_ascii}
-use Rattle.query_tokens.specs.Token.{Token, IsName, IsToken, is_word, is_word_byte, starts_word}
+use Rattle.query_tokens.specs.Token.{IsName, is_word, is_word_byte, starts_word}
 use Rattle.query_text.specs.Grammar.{AreStatements, Fits}
 use Rattle.query_tokens.specs.Lines.{lines_of}
 use Rattle.query_text.specs.Text.{AreLines, IsQuery, on_line}
-use Rattle.query_text.specs.Spelling.{spelling}
 use Rattle.query_text.specs.declared.statement.Body.{Body}
 use Rattle.query_text.specs.declared.statement.Body.TheVariants as bodies
 use Rattle.query_text.specs.declared.statement.Statement.{Statement}
 use Rattle.query_graph.specs.Build.{name_of}
 use Rattle.query_graph.specs.Content.{Content}
-use Rattle.query_graph.specs.IsGraph.{IsGraph, IsNode, IsRelation, FitsSources}
+use Rattle.query_graph.specs.IsGraph.{IsGraph, IsNode, FitsSources}
 use Rattle.query_graph.specs.Statements.{IsGraphOf, IsNodeOf, is_output}
 use Rattle.query_graph.specs.declared.node.Node.{Node}
 use Rattle.query_graph.specs.declared.operator.Operator.{Operator}

@@ -1,5 +1,5 @@
 -- The tables of relations' files make a world, and its plain rows are what is printed.
-use Rattle.std.proofs.Common.{◌≡◌, ℕ, zero, suc, ◌+◌, ◌<◌, ◌≤◌, Bool, true, false, ◌||◌, if◌then◌else◌, nat_lt, arith, List, [], ◌∷◌, ◌++◌, length, map, take, get_or, Option, Some, None, Result, Ok, Err, refl, sym, ap, ◌∙◌, subst}
+use Rattle.std.proofs.Common.{◌≡◌, ℕ, zero, suc, ◌+◌, ◌≤◌, Bool, true, false, ◌||◌, if◌then◌else◌, nat_lt, arith, List, [], ◌∷◌, ◌++◌, length, map, take, Option, Some, None, Result, Ok, Err, refl, sym, ap, ◌∙◌, subst}
 use Rattle.std.specs.Prelude.{slice_get, slice_index_or, All, ◌==◌}
 use Rattle.std.proofs.lemmas.List.Elements.{All-nil}
 use Rattle.conclave_top.proofs.NodeNames.{all_cons}
@@ -9,7 +9,6 @@ use Rattle.std.proofs.lemmas.List.{length-append, length-map, take_all}
 use Rattle.words.specs.Columns.{kinds_of, names_of, word_of}
 use Rattle.words.specs.declared.column.Column.{Column}
 use Rattle.words.specs.declared.column.Kind.{Kind}
-use Rattle.query_graph.specs.Content.{Content}
 use Rattle.query_graph.specs.declared.node.Node.{Node}
 use Rattle.query_graph.specs.declared.operator.Operator.{Operator}
 use Rattle.query_graph.specs.declared.operator.Operator.TheVariants as operators
@@ -18,12 +17,12 @@ use Rattle.tables.specs.File.{table_in}
 use Rattle.tables.specs.File as file
 use Rattle.tables.specs.Outcome.{and_then, map_ok}
 use Rattle.tables.specs.declared.fault.TableFault.{TableFault}
-use Rattle.plain_meaning.specs.Fits.{AreFiles, IsFileOf}
+use Rattle.plain_meaning.specs.Fits.{IsFileOf}
 use Rattle.plain_meaning.specs.Meaning.{files_after, meanings, meanings_after, node_rows, rows_of}
 use Rattle.plain_meaning.specs.Plain.{Ends, IsPlain, bound_of, is_over}
 use Rattle.conclave_top.specs.Answers.{AreNodeTables}
 use Rattle.conclave_top.specs.Compile.{first_bound, is_bounded, is_written}
-use Rattle.conclave_top.specs.Relations.{or_line, table_of, tables_of}
+use Rattle.conclave_top.specs.Relations.{or_line, tables_of}
 
 zero_is_not_suc : (n : ℕ) → 0 ≡ suc n → ⊥
 zero_is_not_suc n same = omega arith

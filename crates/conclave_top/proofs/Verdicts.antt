@@ -7,10 +7,10 @@ use Rattle.query_text.specs.declared.statement.Statement.{Statement}
 use Rattle.query_graph.specs.Build.{graph_of}
 use Rattle.query_graph.specs.Content.{Content}
 use Rattle.query_graph.specs.declared.fault.GraphFault.{GraphFault}
-use Rattle.conclave_top.specs.Compile.{IsCompiled, IsRefused, first_bound, refusal_of}
+use Rattle.conclave_top.specs.Compile.{IsCompiled, IsRefused, graph_refusal, refusal_of}
 use Rattle.conclave_top.specs.Laws.{OneVerdict, SomeVerdict}
-use Rattle.conclave_top.specs.Lines.{graph_refused, not_built, text_refused}
-use Rattle.conclave_top.specs.Plain.{Verdict, refuses, IsDue, IsDueOver, IsDueText, verdict_of}
+use Rattle.conclave_top.specs.Lines.{graph_refused, text_refused}
+use Rattle.conclave_top.specs.Plain.{Verdict, refuses, IsDueOver, IsDueText, verdict_of}
 use Rattle.conclave_top.specs.Relations.{files_of}
 
 same_of_some : {A : Type 0} (x y : A) → Some x ≡ Some y → x ≡ y
@@ -73,16 +73,16 @@ one_verdict reading files query first second a b =
     let same : a.text ≡ b.text = same_of_some a.text b.text (sym a.held ∙ b.held) in
     same_verdict reading files b.text first second (subst (λ t. IsDueText (Some files) t first) same a.due) b.due
 
-each_graph : (statements : List Statement) (graph : Content) → graph_of statements ≡ Ok graph → (bound : Option ℕ) → first_bound graph.nodes ≡ bound
+each_graph : (statements : List Statement) (graph : Content) → graph_of statements ≡ Ok graph → (refusal : Option (List ℕ)) → graph_refusal graph ≡ refusal
     → ((line : List ℕ) × (refusal_of (graph_of statements) ≡ Some line)) ⊎ ((graph : Content) × (graph_of statements ≡ Ok graph) × (refusal_of (graph_of statements) ≡ None))
-each_graph statements graph is (Some line) bound = inl (not_built line, ap refusal_of is ∙ rw bound refl)
-each_graph statements graph is None bound = inr (graph, is, ap refusal_of is ∙ rw bound refl)
+each_graph statements graph is (Some line) refused = inl (line, ap refusal_of is ∙ refused)
+each_graph statements graph is None passes = inr (graph, is, ap refusal_of is ∙ passes)
 
 -- a query is refused or compiled
 each_query : (statements : List Statement) (answer : Result Content GraphFault) → graph_of statements ≡ answer
     → ((line : List ℕ) × (refusal_of (graph_of statements) ≡ Some line)) ⊎ ((graph : Content) × (graph_of statements ≡ Ok graph) × (refusal_of (graph_of statements) ≡ None))
 each_query statements (Err fault) is = inl (graph_refused fault, ap refusal_of is)
-each_query statements (Ok graph) is = each_graph statements graph is (first_bound graph.nodes) refl
+each_query statements (Ok graph) is = each_graph statements graph is (graph_refusal graph) refl
 
 -- each text is refused or compiled
 of_query : (text : List ℕ) (statements : List Statement) → IsQuery text statements

@@ -1,5 +1,5 @@
 -- What is printed of a query over the tables of its relations.
-use Rattle.std.specs.Prelude.{◌≡◌, ℕ, List, [], ◌∷◌, ◌++◌, map, slice_index_or, slice_get, Option, Some, None}
+use Rattle.std.specs.Prelude.{◌≡◌, ℕ, List, [], ◌++◌, map, slice_index_or, slice_get, Option, Some, None}
 use Rattle.std.specs.List.{flat_map}
 use Rattle.plain_meaning.specs.Meaning.{meanings}
 use Rattle.query_graph.specs.Content.{Content}

@@ -10,7 +10,10 @@ use Rattle.query_graph.specs.declared.operator.Operator.{Operator}
 use Rattle.query_graph.specs.declared.operator.Operator.TheVariants as operators
 use Rattle.conclave_top.specs.declared.compile.Stop.{Stop}
 use Rattle.conclave_top.specs.declared.compile.Stop.TheVariants.{Refused, Memory}
-use Rattle.conclave_top.specs.Lines.{graph_refused, not_built, text_refused}
+use Rattle.trust_sets.specs.Faults.{first_fault}
+use Rattle.trust_sets.specs.Trust.{trust_of}
+use Rattle.conclave_top.specs.Lines.{graph_refused, not_built, text_refused, trust_refused}
+use Rattle.std.specs.Option.{option_or}
 
 abbrev pub is_written : {A : Type 0} → Option A → Bool
 is_written None = false
@@ -31,10 +34,14 @@ abbrev pub first_bound : List Node → Option ℕ
 first_bound [] = None
 first_bound (node ∷ nodes) = if is_bounded node.shape then Some node.line else first_bound nodes
 
--- the line of the refusal of a query, by what its statements give: a rule that they break, or the first bound
+-- the line of the refusal of a graph: by trust or release, or for the first bound
+abbrev pub graph_refusal : Content → Option (List ℕ)
+graph_refusal graph = option_or (option_map (trust_refused graph.nodes) (first_fault graph (trust_of graph.nodes))) (option_map not_built (first_bound graph.nodes))
+
+-- the line of the refusal of a query, by what its statements give: a rule that they break, or that of their graph
 abbrev pub refusal_of : Result Content GraphFault → Option (List ℕ)
 refusal_of (Err fault) = Some (graph_refused fault)
-refusal_of (Ok graph) = option_map not_built (first_bound graph.nodes)
+refusal_of (Ok graph) = graph_refusal graph
 
 -- a text stops being a query, and this line says where
 pub record IsNoQuery (text refusal : List ℕ) : Type 0 where
@@ -62,7 +69,7 @@ pub record IsCompiled (text : List ℕ) (graph : Content) : Type 0 where
 
 -- what compiling a graph, a query, a text gives
 abbrev pub CompilesGraph : Content → Result Content Stop → Type 0
-CompilesGraph graph (Ok same) = (same ≡ graph) × (first_bound graph.nodes ≡ None)
+CompilesGraph graph (Ok same) = (same ≡ graph) × (graph_refusal graph ≡ None)
 CompilesGraph graph (Err (Refused line)) = refusal_of (Ok graph) ≡ Some line.items
 CompilesGraph graph (Err Memory) = ⊤
 

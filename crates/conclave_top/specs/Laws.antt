@@ -1,6 +1,5 @@
 -- What an outcome says of a command line, in both directions.
-use Rattle.std.specs.Prelude.{◌≡◌, ℕ, List, [], Some, None, map, ◌⊎◌}
-use Rattle.std.specs.List.{AllByRecursion}
+use Rattle.std.specs.Prelude.{◌≡◌, ℕ, List, Some, None, map, ◌⊎◌}
 use Rattle.outside.specs.Folder.{Files}
 use Rattle.query_graph.specs.Content.{Content}
 use Rattle.conclave_top.specs.Command.{plain, command_of}

@@ -1,5 +1,5 @@
 -- The files of a graph's relations, and the tables that they are.
-use Rattle.std.specs.Prelude.{◌≡◌, ◌≢◌, All, ℕ, Bool, true, false, List, [], ◌∷◌, ◌++◌, map, filter, Option, Some, Result, Ok, Err, IfSome, codes, ⊤}
+use Rattle.std.specs.Prelude.{◌≡◌, ◌≢◌, All, ℕ, List, [], ◌∷◌, ◌++◌, map, Option, Some, Result, Ok, Err, IfSome, codes, ⊤}
 use Rattle.std.specs.Prelude.{Vec}
 use Rattle.std.specs.Global.{Global}
 use Rattle.std.specs.Str.{IsUtf8}

@@ -1,14 +1,16 @@
 //! From a query's bytes to its graph, or to the line of its refusal.
 
-ghost use Rattle.std.specs.Prelude.{◌≡◌, IfOk};
+ghost use Rattle.std.specs.Prelude.{◌≡◌, IfOk, option_map};
 ghost use Rattle.query_graph.specs.Statements.{IsGraphOf};
 ghost use Rattle.conclave_top.specs.Relations.{AreNamed};
-ghost use Rattle.conclave_top.specs.Compile.{first_bound, is_bounded, Compiles, CompilesGraph, CompilesQuery};
+ghost use Rattle.conclave_top.specs.Compile.{first_bound, graph_refusal, is_bounded, Compiles, CompilesGraph, CompilesQuery};
+ghost use Rattle.conclave_top.specs.Lines.{not_built};
 
-use crate::lines::{graph_refused, not_built, text_refused};
+use crate::lines::{graph_refused, not_built, text_refused, trust_refused};
 use query_graph::{Graph, GraphFault, Node, Operator, build};
 use query_text::{Query, ReadFault, read_query};
 use std::alloc::{AllocError, Global};
+use trust_sets::{check_trust, derive_trust};
 
 /// Why a text gives no graph.
 #[derive(Debug, Drop)]
@@ -50,19 +52,46 @@ fn graph_of(alloc: Global, query: &Query) -> Result<Graph, Stop>
     ensures made { IfOk result (λ graph. IsGraphOf query.now graph) }
 {
     match build(alloc, query) {
-        Ok(graph) => unbounded(alloc, graph),
+        Ok(graph) => checked(alloc, graph),
         Err(GraphFault::Memory) => Err(Stop::Memory),
         Err(fault) => Err(Stop::Refused(graph_refused(alloc, &fault)?)),
     }
 }
 
-/// The graph again, or the line of its first bound.
-fn unbounded(alloc: Global, graph: Graph) -> Result<Graph, Stop>
+/// The graph again, or the line of its refusal.
+fn checked(alloc: Global, graph: Graph) -> Result<Graph, Stop>
     ensures { CompilesGraph graph result }
 {
-    match first_bound(graph.nodes()) {
-        Some(line) => Err(Stop::Refused(not_built(alloc, line)?)),
+    match graph_refusal(alloc, &graph)? {
+        Some(line) => Err(Stop::Refused(line)),
         None => Ok(graph),
+    }
+}
+
+/// The line of a graph's refusal by trust or release, or for its first bound.
+fn graph_refusal(alloc: Global, graph: &Graph) -> Result<Option<Vec<u8>>, AllocError>
+    ensures { IfOk result (λ line. option_map (λ l. l.items) line ≡ graph_refusal graph.now) }
+{
+    let trust = derive_trust(alloc, graph)?;
+    match check_trust(graph, &trust) {
+        Ok(()) => bound_refusal(alloc, graph.nodes()),
+        Err(fault) => {
+            let line = trust_refused(alloc, graph.nodes(), &fault)?;
+            Ok(Some(line))
+        }
+    }
+}
+
+/// The line of the first bound.
+fn bound_refusal(alloc: Global, nodes: &[Node]) -> Result<Option<Vec<u8>>, AllocError>
+    ensures { IfOk result (λ line. option_map (λ l. l.items) line ≡ option_map not_built (first_bound nodes.now)) }
+{
+    match first_bound(nodes) {
+        Some(line) => {
+            let line = not_built(alloc, line)?;
+            Ok(Some(line))
+        }
+        None => Ok(None),
     }
 }
 

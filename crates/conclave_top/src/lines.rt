@@ -1,11 +1,12 @@
 //! The lines of refusals and of faults of files.
 
-ghost use Rattle.std.specs.Prelude.{◌≡◌, ◌++◌, IfOk};
-ghost use Rattle.conclave_top.specs.Lines.{file_line, graph_refused, not_built, text_refused};
+ghost use Rattle.std.specs.Prelude.{◌≡◌, ◌++◌, IfOk, slice_get};
+ghost use Rattle.conclave_top.specs.Lines.{column_of_node, file_line, graph_refused, name_of_column, name_of_node, not_built, text_refused, trust_refused, unreleased, untrusted};
 
-use query_graph::GraphFault;
+use query_graph::{GraphFault, Node};
 use std::alloc::{AllocError, Global};
 use tables::{TableFault, fault_text};
+use trust_sets::TrustFault;
 use words::Column;
 
 /// The line of a text that stops being a query here.
@@ -36,6 +37,95 @@ pub(crate) fn graph_refused(alloc: Global, fault: &GraphFault) -> Result<Vec<u8>
         GraphFault::Memory => String::new(alloc),
     };
     Ok(text.into_bytes())
+}
+
+/// The line of a statement that asks for more than trust or release allows.
+pub(crate) fn trust_refused(
+    alloc: Global,
+    nodes: &[Node],
+    fault: &TrustFault,
+) -> Result<Vec<u8>, AllocError>
+    ensures { IfOk result (λ bytes. bytes.items ≡ trust_refused nodes.now fault.now) }
+{
+    match fault {
+        TrustFault::Trust {
+            line,
+            node: _,
+            origin,
+            party,
+            column,
+        } => untrusted(alloc, nodes, *line, *origin, *party, *column),
+        TrustFault::Release {
+            line,
+            output: _,
+            party,
+            relation,
+        } => unreleased(alloc, nodes, *line, *party, *relation),
+    }
+}
+
+/// The line of a statement that names a party for work that it isn't trusted with.
+fn untrusted(
+    alloc: Global,
+    nodes: &[Node],
+    line: u32,
+    origin: u32,
+    party: u8,
+    column: u32,
+) -> Result<Vec<u8>, AllocError>
+    ensures { IfOk result (λ bytes. bytes.items ≡ untrusted nodes.now line origin party column) }
+{
+    let before = format!(in alloc; "refused: Q8 line {line}: party {party} isn't trusted with ")?;
+    let behind = around(alloc, "", name_of(nodes, origin), "\n")?;
+    let mut text = around(alloc, &before, column_of(nodes, origin, column), " of ")?;
+    text.extend_from_slice(&behind)?;
+    Ok(text)
+}
+
+/// The line of an output to a party to which a relation under it isn't released.
+fn unreleased(
+    alloc: Global,
+    nodes: &[Node],
+    line: u32,
+    party: u8,
+    relation: u32,
+) -> Result<Vec<u8>, AllocError>
+    ensures { IfOk result (λ bytes. bytes.items ≡ unreleased nodes.now line party relation) }
+{
+    let before = format!(in alloc;
+        "refused: Q9 line {line}: party {party} isn't in the release set of "
+    )?;
+    around(alloc, &before, name_of(nodes, relation), "\n")
+}
+
+/// The name of the node with this number.
+fn name_of(nodes: &[Node], number: u32) -> &[u8]
+    ensures { result.now ≡ name_of_node (slice_get nodes.now number) }
+{
+    match nodes.get(number as usize) {
+        Some(node) => node.name.bytes(),
+        None => &[],
+    }
+}
+
+/// The name of a column of the node with this number.
+fn column_of(nodes: &[Node], number: u32, column: u32) -> &[u8]
+    ensures { result.now ≡ column_of_node (slice_get nodes.now number) column }
+{
+    match nodes.get(number as usize) {
+        Some(node) => column_name(node.columns.as_slice(), column),
+        None => &[],
+    }
+}
+
+/// The name of the column with this number.
+fn column_name(columns: &[Column], column: u32) -> &[u8]
+    ensures { result.now ≡ name_of_column (slice_get columns.now column) }
+{
+    match columns.get(column as usize) {
+        Some(column) => column.name.bytes(),
+        None => &[],
+    }
 }
 
 /// The line of a statement that no command carries out yet.

@@ -203,7 +203,7 @@ fn prints_the_answers_of_every_statement(rt: HostRuntime) -> Result<(), Fail> {
 
 #[test]
 fn refuses_a_query_in_one_line(rt: HostRuntime) -> Result<(), Fail> {
-    let cases: [(&[u8], &[u8]); 11] = [
+    let cases: [(&[u8], &[u8]); 13] = [
         (b"output", b"refused: Q1 line 1 column 7: text\n"),
         (b"# nothing\n\x80", b"refused: Q1 line 2 column 1: text\n"),
         (
@@ -227,6 +227,14 @@ fn refuses_a_query_in_one_line(rt: HostRuntime) -> Result<(), Fail> {
             b"refused: Q6 line 3: size\n",
         ),
         (b"", b"refused: Q10: no output\n"),
+        (
+            b"relation b of 1 rows 2 (k num, v num)\nrelation a of 2 rows 2 (k num trust 1, s num)\nf = filter a where s > 5\nj = join b f on k via 1\noutput j to 2\n",
+            b"refused: Q8 line 4: party 1 isn't trusted with k of f\n",
+        ),
+        (
+            b"relation r of 2 rows 2 (x num) release 2\nd = distinct r at most 1\noutput r to 1\n",
+            b"refused: Q9 line 3: party 1 isn't in the release set of r\n",
+        ),
         (BOUNDED, b"refused: not built line 5\n"),
         (
             b"relation a of 1 rows 2 (x num)\ng = group a by x (n = count) parts at most 1\nd = distinct a at most 1\noutput d to 1\n",

@@ -1,4 +1,4 @@
-use Rattle.std.proofs.Common.{rules, ◌≡◌, ◌<◌, map, length, subst, sym}
+use Rattle.std.proofs.Common.{◌<◌, length, subst, sym}
 use Rattle.conclave_top.proofs.PrintedNodes.{as_many, columns_at, output_at}
 use Rattle.conclave_top.proofs.answers.print_output.Goals as goal
 

@@ -1,5 +1,3 @@
-use Rattle.std.proofs.Common.{rules}
-use Rattle.query_text.specs.Text.{IsQuery}
 use Rattle.conclave_top.proofs.NodeNames.{compiled_named}
 use Rattle.conclave_top.proofs.compile.compile.Goals as goal
 

@@ -1,4 +1,4 @@
-use Rattle.std.proofs.Common.{rules, ◌≡◌, ◌∙◌, Ok, length, map}
+use Rattle.std.proofs.Common.{rules, ◌≡◌, ◌∙◌, Ok, map}
 use Rattle.std.proofs.lemmas.List.{length-map}
 use Rattle.plain_meaning.specs.Fits.{relations}
 use Rattle.conclave_top.specs.Relations.{tables_of}

@@ -1,9 +1,8 @@
-use Rattle.std.proofs.Common.{rules, ◌≡◌, ◌⊎◌, ◌≤◌, [], ◌∷◌, subst, inl, inr}
+use Rattle.std.proofs.Common.{rules, ◌⊎◌, ◌≤◌, subst, inr}
 use Rattle.outside.specs.Cause.{Rose}
-use Rattle.outside.specs.Folder.{Holds}
 use Rattle.conclave_top.specs.Compile.{IsCompiled}
 use Rattle.conclave_top.specs.End.{Ended}
-use Rattle.conclave_top.specs.Plain.{Called, IsDueOver}
+use Rattle.conclave_top.specs.Plain.{IsDueOver}
 use Rattle.conclave_top.specs.Relations.{files_of}
 use Rattle.conclave_top.proofs.Ends.{ended_over_text, front_then, risen_before}
 use Rattle.conclave_top.proofs.plain.plain.Goals as goal

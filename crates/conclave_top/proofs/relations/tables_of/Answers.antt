@@ -1,7 +1,7 @@
-use Rattle.std.proofs.Common.{rules, ◌≡◌, ◌<◌, ◌≤◌, ◌∙◌, [], ◌∷◌, ◌++◌, Ok, Err, length, map, get_or, subst, sym, ap}
+use Rattle.std.proofs.Common.{rules, ◌≡◌, ◌<◌, [], ◌∷◌, ◌++◌, Ok, Err, length, map, subst, sym}
 use Rattle.conclave_top.specs.Relations.{IsStored, GivesTable, GivesTables, table_of, tables_of}
-use Rattle.conclave_top.proofs.Files.{gives_fault, tables_end, tables_fail, tables_pass}
-use Rattle.conclave_top.proofs.ReadFiles.{item_of_map, past_map, within_map}
+use Rattle.conclave_top.proofs.Files.{gives_fault, tables_pass}
+use Rattle.conclave_top.proofs.ReadFiles.{item_of_map, within_map}
 use Rattle.conclave_top.proofs.relations.tables_of.Goals as goal
 
 pub read_one-requires : goal.read_one-requires
