@@ -2,6 +2,8 @@ pub mod FirstFaults
 pub mod GraphSteps
 pub mod Invariant
 pub mod Places
+pub mod Tables
+pub mod Repeats
 pub mod Faultless
 pub mod Different
 pub mod Widths

@@ -2,6 +2,7 @@ pub mod Parties
 pub mod Content
 pub mod Faults
 pub mod Names
+pub mod Tables
 pub mod Used
 pub mod Kinds
 pub mod Columns

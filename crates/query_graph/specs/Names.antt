@@ -11,6 +11,10 @@ use Rattle.query_graph.specs.declared.node.Node.{Node}
 abbrev pub is_among : List (List ℕ) → List ℕ → Bool
 is_among names name = list_any (λ other. bytes_eq other name) names
 
+-- how many of these names stand before this one
+abbrev pub name_number : List (List ℕ) → List ℕ → ℕ
+name_number names name = prefix_len (λ other. not (bytes_eq other name)) names
+
 -- a column has this name
 abbrev pub is_column : List Column → List ℕ → Bool
 is_column columns name = list_any (λ c. bytes_eq c.name name) columns

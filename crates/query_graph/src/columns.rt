@@ -7,9 +7,8 @@ ghost use Rattle.query_graph.specs.Kinds.{declared_kind};
 ghost use Rattle.query_graph.specs.Names.{is_among};
 
 use crate::kinds::{operand_kind, result_kind};
-use crate::names::column_kind;
-use crate::node::Node;
-use crate::nodes::{first_columns, node_columns};
+use crate::nodes::Nodes;
+use crate::source::Source;
 use query_text::{AggregateText, Body, Bytes, ColumnText, ItemText, JoinText, KindText};
 use std::alloc::{AllocError, Global};
 use words::{Column, Kind, Label};
@@ -21,14 +20,14 @@ pub(crate) trait Makes: Sized {
 
     ghost made: { List Column → Self → Column };
 
-    fn column(&self, alloc: Global, source: &[Column]) -> Result<Column, AllocError>
+    fn column(&self, alloc: Global, source: &Source) -> Result<Column, AllocError>
         ensures { IfOk result (λ column. column ≡ made source.now self.now) };
 }
 
 /// Adds the columns that the parts make.
 pub(crate) fn add_made<P: Makes>(
     alloc: Global,
-    source: &[Column],
+    source: &Source,
     parts: &[P],
     columns: &mut Vec<Column>,
 ) -> Result<(), AllocError>
@@ -69,30 +68,30 @@ pub(crate) fn add_all(source: &[Column], columns: &mut Vec<Column>) -> Result<()
 /// The columns of a statement's node.
 pub(crate) fn columns_of(
     alloc: Global,
-    nodes: &[Node],
+    nodes: &Nodes,
     body: &Body,
 ) -> Result<Vec<Column>, AllocError>
     ensures { IfOk result (λ columns. columns.items ≡ columns_of nodes.now body.now) }
 {
     let mut columns = Vec::new(alloc);
     match body {
-        Body::Relation(r) => add_made(alloc, &[], r.columns.as_slice(), &mut columns)?,
-        Body::Filter(f) => add_all(node_columns(nodes, &f.source), &mut columns)?,
+        Body::Relation(r) => add_made(alloc, &Source::none(), r.columns.as_slice(), &mut columns)?,
+        Body::Filter(f) => add_all(nodes.source(&f.source).columns(), &mut columns)?,
         Body::Select(s) => {
-            let source = node_columns(nodes, &s.source);
-            add_made(alloc, source, s.items.as_slice(), &mut columns)?;
+            let source = nodes.source(&s.source);
+            add_made(alloc, &source, s.items.as_slice(), &mut columns)?;
         }
         Body::Concat(c) => {
-            let source = first_columns(nodes, c.sources.as_slice());
-            add_all(source, &mut columns)?;
+            let source = nodes.first_source(c.sources.as_slice());
+            add_all(source.columns(), &mut columns)?;
         }
         Body::Join(j) => add_joined(alloc, nodes, j, &mut columns)?,
         Body::Group(g) => {
-            let source = node_columns(nodes, &g.source);
-            add_made(alloc, source, g.keys.as_slice(), &mut columns)?;
-            add_made(alloc, source, g.aggregates.as_slice(), &mut columns)?;
+            let source = nodes.source(&g.source);
+            add_made(alloc, &source, g.keys.as_slice(), &mut columns)?;
+            add_made(alloc, &source, g.aggregates.as_slice(), &mut columns)?;
         }
-        Body::Distinct(d) => add_all(node_columns(nodes, &d.source), &mut columns)?,
+        Body::Distinct(d) => add_all(nodes.source(&d.source).columns(), &mut columns)?,
         Body::Output(_) => (),
     }
     Ok(columns)
@@ -101,18 +100,18 @@ pub(crate) fn columns_of(
 // Adds the keys, then the left's other columns, then the right's.
 fn add_joined(
     alloc: Global,
-    nodes: &[Node],
+    nodes: &Nodes,
     join: &JoinText,
     columns: &mut Vec<Column>,
 ) -> Result<(), AllocError>
     ensures { OnOk result (columns.new.items ≡ columns.old.items ++ joined_columns nodes.now join.now) }
 {
     let keys = join.keys.as_slice();
-    let left = node_columns(nodes, &join.left);
-    let right = node_columns(nodes, &join.right);
-    add_made(alloc, left, keys, columns)?;
-    add_others(keys, left, columns)?;
-    add_others(keys, right, columns)
+    let left = nodes.source(&join.left);
+    let right = nodes.source(&join.right);
+    add_made(alloc, &left, keys, columns)?;
+    add_others(keys, left.columns(), columns)?;
+    add_others(keys, right.columns(), columns)
 }
 
 // Whether the name is one of these.
@@ -146,7 +145,7 @@ impl Makes for ColumnText {
 
     ghost made = { λ _ c. declared_column c };
 
-    fn column(&self, alloc: Global, _source: &[Column]) -> Result<Column, AllocError> {
+    fn column(&self, alloc: Global, _source: &Source) -> Result<Column, AllocError> {
         named_column(alloc, &self.name, declared_kind(self.kind))
     }
 }
@@ -156,8 +155,8 @@ impl Makes for Bytes {
 
     ghost made = { key_column };
 
-    fn column(&self, alloc: Global, source: &[Column]) -> Result<Column, AllocError> {
-        named_column(alloc, self, column_kind(source, self.bytes()))
+    fn column(&self, alloc: Global, source: &Source) -> Result<Column, AllocError> {
+        named_column(alloc, self, source.kind(self.bytes()))
     }
 }
 
@@ -166,9 +165,9 @@ impl Makes for ItemText {
 
     ghost made = { item_column };
 
-    fn column(&self, alloc: Global, source: &[Column]) -> Result<Column, AllocError> {
+    fn column(&self, alloc: Global, source: &Source) -> Result<Column, AllocError> {
         match self {
-            ItemText::Same(name) => named_column(alloc, name, column_kind(source, name.bytes())),
+            ItemText::Same(name) => named_column(alloc, name, source.kind(name.bytes())),
             ItemText::Copied(new, operand) => named_column(
                 alloc,
                 new,
@@ -184,15 +183,15 @@ impl Makes for AggregateText {
 
     ghost made = { aggregate_column };
 
-    fn column(&self, alloc: Global, source: &[Column]) -> Result<Column, AllocError> {
+    fn column(&self, alloc: Global, source: &Source) -> Result<Column, AllocError> {
         match self {
             AggregateText::Sum(new, _) => named_column(alloc, new, Kind::Num),
             AggregateText::Count(new) => named_column(alloc, new, Kind::Num),
             AggregateText::Least(new, name) => {
-                named_column(alloc, new, column_kind(source, name.bytes()))
+                named_column(alloc, new, source.kind(name.bytes()))
             }
             AggregateText::Greatest(new, name) => {
-                named_column(alloc, new, column_kind(source, name.bytes()))
+                named_column(alloc, new, source.kind(name.bytes()))
             }
         }
     }

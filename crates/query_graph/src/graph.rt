@@ -9,6 +9,7 @@ ghost use Rattle.query_graph.specs.IsGraph.{IsGraph};
 use crate::columns::columns_of;
 use crate::fault::GraphFault;
 use crate::node::{Node, Output};
+use crate::nodes::Nodes;
 use crate::operators::{node_of, output_of};
 use crate::rules::check_rules;
 use crate::sizes::rows_of;
@@ -21,7 +22,7 @@ use std::marker::Model;
 /// its place from 0. Seen as both lists.
 #[derive(Debug, Drop)]
 pub struct Graph {
-    nodes: Vec<Node>,
+    nodes: Nodes,
     outputs: Vec<Output>,
     cells: u64,
 }
@@ -46,7 +47,7 @@ impl Graph {
         ensures { result ≡ empty_graph }
     {
         Graph {
-            nodes: Vec::new(alloc),
+            nodes: Nodes::new(alloc),
             outputs: Vec::new(alloc),
             cells: 0,
         }
@@ -57,7 +58,7 @@ impl Graph {
         ensures nodes { result.now.items ≡ self.now.nodes }
         ensures graph { IsGraph self.now }
     {
-        &self.nodes
+        self.nodes.list()
     }
 
     /// The outputs, in the order of the text.
@@ -74,11 +75,11 @@ impl Graph {
         ensures rules { Passes result (fault_of self.old line body.now) }
         ensures added { OnOk result (self.new ≡ with_statement self.old line body.now) }
     {
-        let nodes = self.nodes.as_slice();
+        let nodes = &self.nodes;
         check_known(alloc, line, nodes, body)?;
         let columns = columns_of(alloc, nodes, body)?;
         let outputs = self.outputs.as_slice();
-        check_rules(alloc, nodes, outputs, self.cells, line, body, &columns)?;
+        let names = check_rules(alloc, nodes, outputs, self.cells, line, body, &columns)?;
         if let Some(output) = output_of(nodes, line, body) {
             self.outputs.push(output)?;
             return Ok(());
@@ -90,7 +91,7 @@ impl Graph {
         let rows = rows_of(nodes, body) as u32;
         let cells = self.cells + u64::from(rows) * (columns.len() as u64 + 1);
         let node = node_of(alloc, nodes, line, body, columns)?;
-        self.nodes.push(node)?;
+        self.nodes.push(alloc, node, names)?;
         self.cells = cells;
         Ok(())
     }

@@ -28,6 +28,7 @@ mod refusal_tests;
 mod rules;
 mod shapes;
 mod sizes;
+mod source;
 mod taken;
 mod used;
 

@@ -5,18 +5,18 @@ ghost use Rattle.std.specs.Prelude.{◌≡◌, ◌<◌, ◌^◌, length, map, If
 ghost use Rattle.query_graph.specs.Names.{column_number};
 ghost use Rattle.query_graph.specs.Operators.{aggregate_of, item_of, operand_of, test_of, text_word};
 
-use crate::names::column_number;
 use crate::operand::{Aggregate, Item, Operand, Test};
+use crate::source::Source;
 use query_text::{AggregateText, Bytes, ItemText, OperandText, TestText};
 use std::alloc::{AllocError, Global};
-use words::{Column, pack_text};
+use words::pack_text;
 
 /// The number of the column with this name.
-pub(crate) fn number(columns: &[Column], name: &Bytes) -> u32
+pub(crate) fn number(columns: &Source, name: &Bytes) -> u32
     requires { length columns.now < 2 ^ 32 }
     ensures { result ≡ column_number columns.now name.now }
 {
-    column_number(columns, name.bytes()) as u32
+    columns.number(name.bytes()) as u32
 }
 
 // The word of a constant text.
@@ -29,7 +29,7 @@ fn text_word(bytes: &Bytes) -> u64
     }
 }
 
-fn operand_of(columns: &[Column], operand: &OperandText) -> Operand
+fn operand_of(columns: &Source, operand: &OperandText) -> Operand
     requires { length columns.now < 2 ^ 32 }
     ensures { result ≡ operand_of columns.now operand.now }
 {
@@ -42,7 +42,7 @@ fn operand_of(columns: &[Column], operand: &OperandText) -> Operand
     }
 }
 
-fn test_of(columns: &[Column], test: &TestText) -> Test
+fn test_of(columns: &Source, test: &TestText) -> Test
     requires { length columns.now < 2 ^ 32 }
     ensures { result ≡ test_of columns.now test.now }
 {
@@ -53,7 +53,7 @@ fn test_of(columns: &[Column], test: &TestText) -> Test
     }
 }
 
-fn item_of(columns: &[Column], item: &ItemText) -> Item
+fn item_of(columns: &Source, item: &ItemText) -> Item
     requires { length columns.now < 2 ^ 32 }
     ensures { result ≡ item_of columns.now item.now }
 {
@@ -68,7 +68,7 @@ fn item_of(columns: &[Column], item: &ItemText) -> Item
     }
 }
 
-fn aggregate_of(columns: &[Column], aggregate: &AggregateText) -> Aggregate
+fn aggregate_of(columns: &Source, aggregate: &AggregateText) -> Aggregate
     requires { length columns.now < 2 ^ 32 }
     ensures { result ≡ aggregate_of columns.now aggregate.now }
 {
@@ -83,7 +83,7 @@ fn aggregate_of(columns: &[Column], aggregate: &AggregateText) -> Aggregate
 /// The tests over these columns.
 pub(crate) fn tests_of(
     alloc: Global,
-    columns: &[Column],
+    columns: &Source,
     tests: &[TestText],
 ) -> Result<Vec<Test>, AllocError>
     requires { length columns.now < 2 ^ 32 }
@@ -98,7 +98,7 @@ pub(crate) fn tests_of(
 /// The items over these columns.
 pub(crate) fn items_of(
     alloc: Global,
-    columns: &[Column],
+    columns: &Source,
     items: &[ItemText],
 ) -> Result<Vec<Item>, AllocError>
     requires { length columns.now < 2 ^ 32 }
@@ -113,7 +113,7 @@ pub(crate) fn items_of(
 /// The aggregates over these columns.
 pub(crate) fn aggregates_of(
     alloc: Global,
-    columns: &[Column],
+    columns: &Source,
     aggregates: &[AggregateText],
 ) -> Result<Vec<Aggregate>, AllocError>
     requires { length columns.now < 2 ^ 32 }
@@ -128,7 +128,7 @@ pub(crate) fn aggregates_of(
 /// The numbers of columns with these names.
 pub(crate) fn numbers_of(
     alloc: Global,
-    columns: &[Column],
+    columns: &Source,
     names: &[Bytes],
 ) -> Result<Vec<u32>, AllocError>
     requires { length columns.now < 2 ^ 32 }

@@ -8,13 +8,13 @@ ghost use Rattle.query_graph.specs.Names.{node_number};
 ghost use Rattle.query_graph.specs.Parties.{parties_of};
 ghost use Rattle.query_graph.specs.Sizes.{AreNarrow, counts_fit, is_bound, sizes_fit};
 
-use crate::names::node_number;
 use crate::node::{Node, Output};
-use crate::nodes::node_columns;
+use crate::nodes::Nodes;
 use crate::numbers::{aggregates_of, items_of, number, numbers_of, tests_of};
 use crate::operator::{Concat, Distinct, Filter, Group, Join, Operator, Relation, Select};
 use crate::parties::Parties;
 use crate::sizes::rows_of;
+use crate::source::Source;
 use query_text::{
     Body, Bytes, ColumnText, FilterText, GroupText, JoinText, RelationText, SelectText, Sequence,
 };
@@ -22,15 +22,15 @@ use std::alloc::{AllocError, Global};
 use words::{Column, Label};
 
 // The number of the node with this name.
-fn number_of_node(nodes: &[Node], name: &Bytes) -> u32
+fn number_of_node(nodes: &Nodes, name: &Bytes) -> u32
     requires { length nodes.now < 2 ^ 32 }
     ensures { result ≡ node_number nodes.now name.now }
 {
-    node_number(nodes, name.bytes()) as u32
+    nodes.number(name.bytes()) as u32
 }
 
 // The numbers of the nodes with these names.
-fn numbers_of_nodes(alloc: Global, nodes: &[Node], names: &[Bytes]) -> Result<Vec<u32>, AllocError>
+fn numbers_of_nodes(alloc: Global, nodes: &Nodes, names: &[Bytes]) -> Result<Vec<u32>, AllocError>
     requires { length nodes.now < 2 ^ 32 }
     ensures { IfOk result (λ made. made.items ≡ map (node_number nodes.now) names.now) }
 {
@@ -62,7 +62,7 @@ fn trusted_of(alloc: Global, columns: &[ColumnText]) -> Result<Vec<Parties>, All
 }
 
 // The numbers of a key on the left and on the right.
-fn key_of(left: &[Column], right: &[Column], key: &Bytes) -> (u32, u32)
+fn key_of(left: &Source, right: &Source, key: &Bytes) -> (u32, u32)
     requires left { length left.now < 2 ^ 32 }
     requires right { length right.now < 2 ^ 32 }
     ensures left { result.0 ≡ (key_numbers left.now right.now key.now).0 }
@@ -74,8 +74,8 @@ fn key_of(left: &[Column], right: &[Column], key: &Bytes) -> (u32, u32)
 // The keys of a join by their numbers on both sides.
 fn keys_of(
     alloc: Global,
-    left: &[Column],
-    right: &[Column],
+    left: &Source,
+    right: &Source,
     keys: &[Bytes],
 ) -> Result<Vec<(u32, u32)>, AllocError>
     requires left { length left.now < 2 ^ 32 }
@@ -87,15 +87,15 @@ fn keys_of(
         .collect(alloc)
 }
 
-fn join_of(alloc: Global, nodes: &[Node], join: &JoinText) -> Result<Operator, AllocError>
+fn join_of(alloc: Global, nodes: &Nodes, join: &JoinText) -> Result<Operator, AllocError>
     requires few { length nodes.now < 2 ^ 32 }
     requires narrow { AreNarrow nodes.now }
     requires bound { is_bound join.now.at_most ≡ true }
     ensures { IfOk result (λ made. made ≡ operator_of nodes.now (Body.Join join.now)) }
 {
-    let left = node_columns(nodes, &join.left);
-    let right = node_columns(nodes, &join.right);
-    let keys = Sequence::from_vec(keys_of(alloc, left, right, join.keys.as_slice())?);
+    let left = nodes.source(&join.left);
+    let right = nodes.source(&join.right);
+    let keys = Sequence::from_vec(keys_of(alloc, &left, &right, join.keys.as_slice())?);
     Ok(Operator::Join(Join {
         left: number_of_node(nodes, &join.left),
         right: number_of_node(nodes, &join.right),
@@ -106,16 +106,16 @@ fn join_of(alloc: Global, nodes: &[Node], join: &JoinText) -> Result<Operator, A
     }))
 }
 
-fn group_of(alloc: Global, nodes: &[Node], group: &GroupText) -> Result<Operator, AllocError>
+fn group_of(alloc: Global, nodes: &Nodes, group: &GroupText) -> Result<Operator, AllocError>
     requires few { length nodes.now < 2 ^ 32 }
     requires narrow { AreNarrow nodes.now }
     requires parts { is_bound group.now.parts_at_most ≡ true }
     requires bound { is_bound group.now.at_most ≡ true }
     ensures { IfOk result (λ made. made ≡ operator_of nodes.now (Body.Group group.now)) }
 {
-    let source = node_columns(nodes, &group.source);
-    let keys = Sequence::from_vec(numbers_of(alloc, source, group.keys.as_slice())?);
-    let aggregates = aggregates_of(alloc, source, group.aggregates.as_slice())?;
+    let source = nodes.source(&group.source);
+    let keys = Sequence::from_vec(numbers_of(alloc, &source, group.keys.as_slice())?);
+    let aggregates = aggregates_of(alloc, &source, group.aggregates.as_slice())?;
     let aggregates = Sequence::from_vec(aggregates);
     Ok(Operator::Group(Group {
         source: number_of_node(nodes, &group.source),
@@ -128,14 +128,14 @@ fn group_of(alloc: Global, nodes: &[Node], group: &GroupText) -> Result<Operator
     }))
 }
 
-fn filter_of(alloc: Global, nodes: &[Node], filter: &FilterText) -> Result<Operator, AllocError>
+fn filter_of(alloc: Global, nodes: &Nodes, filter: &FilterText) -> Result<Operator, AllocError>
     requires few { length nodes.now < 2 ^ 32 }
     requires narrow { AreNarrow nodes.now }
     requires bound { is_bound filter.now.at_most ≡ true }
     ensures { IfOk result (λ made. made ≡ operator_of nodes.now (Body.Filter filter.now)) }
 {
-    let source = node_columns(nodes, &filter.source);
-    let tests = Sequence::from_vec(tests_of(alloc, source, filter.tests.as_slice())?);
+    let source = nodes.source(&filter.source);
+    let tests = Sequence::from_vec(tests_of(alloc, &source, filter.tests.as_slice())?);
     Ok(Operator::Filter(Filter {
         source: number_of_node(nodes, &filter.source),
         tests,
@@ -144,13 +144,13 @@ fn filter_of(alloc: Global, nodes: &[Node], filter: &FilterText) -> Result<Opera
     }))
 }
 
-fn select_of(alloc: Global, nodes: &[Node], select: &SelectText) -> Result<Operator, AllocError>
+fn select_of(alloc: Global, nodes: &Nodes, select: &SelectText) -> Result<Operator, AllocError>
     requires few { length nodes.now < 2 ^ 32 }
     requires narrow { AreNarrow nodes.now }
     ensures { IfOk result (λ made. made ≡ operator_of nodes.now (Body.Select select.now)) }
 {
-    let source = node_columns(nodes, &select.source);
-    let items = Sequence::from_vec(items_of(alloc, source, select.items.as_slice())?);
+    let source = nodes.source(&select.source);
+    let items = Sequence::from_vec(items_of(alloc, &source, select.items.as_slice())?);
     Ok(Operator::Select(Select {
         source: number_of_node(nodes, &select.source),
         items,
@@ -170,11 +170,7 @@ fn relation_of(alloc: Global, relation: &RelationText) -> Result<Operator, Alloc
 }
 
 /// What a statement's node does.
-pub(crate) fn operator_of(
-    alloc: Global,
-    nodes: &[Node],
-    body: &Body,
-) -> Result<Operator, AllocError>
+pub(crate) fn operator_of(alloc: Global, nodes: &Nodes, body: &Body) -> Result<Operator, AllocError>
     requires few { length nodes.now < 2 ^ 32 }
     requires narrow { AreNarrow nodes.now }
     requires counts { counts_fit body.now ≡ true }
@@ -206,7 +202,7 @@ pub(crate) fn operator_of(
 /// The node of a statement, which has these columns.
 pub(crate) fn node_of(
     alloc: Global,
-    nodes: &[Node],
+    nodes: &Nodes,
     line: u32,
     body: &Body,
     columns: Vec<Column>,
@@ -227,7 +223,7 @@ pub(crate) fn node_of(
 }
 
 /// The output that a statement is.
-pub(crate) fn output_of(nodes: &[Node], line: u32, body: &Body) -> Option<Output>
+pub(crate) fn output_of(nodes: &Nodes, line: u32, body: &Body) -> Option<Output>
     requires { length nodes.now < 2 ^ 32 }
     ensures { result ≡ output_of nodes.now line body.now }
 {

@@ -7,8 +7,7 @@ ghost use Rattle.query_graph.specs.Names.{node_columns};
 ghost use Rattle.query_graph.specs.Shapes.{keyless_fits, same_column, same_columns, shape_fits};
 
 use crate::kinds::same_kind;
-use crate::node::Node;
-use crate::nodes::{first_columns, node_columns};
+use crate::nodes::Nodes;
 use query_text::{Body, Bytes};
 use words::Column;
 
@@ -34,16 +33,16 @@ fn same_columns(left: &[Column], right: &[Column]) -> bool
 }
 
 // Whether the nodes of these names have these columns.
-fn all_same(nodes: &[Node], columns: &[Column], names: &[Bytes]) -> bool
+fn all_same(nodes: &Nodes, columns: &[Column], names: &[Bytes]) -> bool
     ensures { result ≡ list_all (λ name. same_columns (node_columns nodes.now name) columns.now) names.now }
 {
     names
         .iter()
-        .all(|name| same_columns(node_columns(nodes, name), columns))
+        .all(|name| same_columns(nodes.source(name).columns(), columns))
 }
 
 /// Whether the sources of a concat have the same columns, and the parts of a group stand together.
-pub(crate) fn shape_fits(nodes: &[Node], body: &Body) -> bool
+pub(crate) fn shape_fits(nodes: &Nodes, body: &Body) -> bool
     ensures { result ≡ shape_fits nodes.now body.now }
 {
     match body {
@@ -52,7 +51,7 @@ pub(crate) fn shape_fits(nodes: &[Node], body: &Body) -> bool
         Body::Select(_) => true,
         Body::Concat(c) => {
             let sources = c.sources.as_slice();
-            all_same(nodes, first_columns(nodes, sources), sources)
+            all_same(nodes, nodes.first_source(sources).columns(), sources)
         }
         Body::Join(_) => true,
         Body::Group(g) => {

@@ -7,8 +7,7 @@ ghost use Rattle.query_graph.specs.Names.{node_rows};
 ghost use Rattle.query_graph.specs.Columns.{columns_of};
 ghost use Rattle.query_graph.specs.Sizes.{bounded, bounded_parts, cell_limit, cells_of, column_limit, row_limit, sizes_fit, constant_fits, constants_fit, counts_fit, group_rows, is_bound, is_row_count, item_constants_fit, rows_of, test_constants_fit};
 
-use crate::node::Node;
-use crate::nodes::node_rows;
+use crate::nodes::Nodes;
 use query_text::{Body, Bytes, ItemText, OperandText, TestText};
 use words::Column;
 
@@ -73,43 +72,43 @@ fn group_rows(keys: &[Bytes], parts: Option<u64>, rows: u128) -> u128
 }
 
 // The sum of the rows of these nodes.
-fn sum_rows(nodes: &[Node], names: &[Bytes]) -> u128
+fn sum_rows(nodes: &Nodes, names: &[Bytes]) -> u128
     ensures { result ≡ sum (map (node_rows nodes.now) names.now) }
 {
     let mut rows = 0;
     for name in names {
-        rows += u128::from(node_rows(nodes, name));
+        rows += u128::from(nodes.rows(name));
     }
     rows
 }
 
 /// The declared rows of a statement's node.
-pub(crate) fn rows_of(nodes: &[Node], body: &Body) -> u128
+pub(crate) fn rows_of(nodes: &Nodes, body: &Body) -> u128
     ensures { result ≡ rows_of nodes.now body.now }
 {
     match body {
         Body::Relation(r) => u128::from(r.rows),
-        Body::Filter(f) => bounded(f.at_most, u128::from(node_rows(nodes, &f.source))),
-        Body::Select(s) => u128::from(node_rows(nodes, &s.source)),
+        Body::Filter(f) => bounded(f.at_most, u128::from(nodes.rows(&f.source))),
+        Body::Select(s) => u128::from(nodes.rows(&s.source)),
         Body::Concat(c) => sum_rows(nodes, c.sources.as_slice()),
         Body::Join(j) => {
-            let left = u128::from(node_rows(nodes, &j.left));
-            bounded(j.at_most, left * u128::from(node_rows(nodes, &j.right)))
+            let left = u128::from(nodes.rows(&j.left));
+            bounded(j.at_most, left * u128::from(nodes.rows(&j.right)))
         }
         Body::Group(g) => {
-            let source = u128::from(node_rows(nodes, &g.source));
+            let source = u128::from(nodes.rows(&g.source));
             bounded(
                 g.at_most,
                 group_rows(g.keys.as_slice(), g.parts_at_most, source),
             )
         }
-        Body::Distinct(d) => bounded(d.at_most, u128::from(node_rows(nodes, &d.source))),
+        Body::Distinct(d) => bounded(d.at_most, u128::from(nodes.rows(&d.source))),
         Body::Output(_) => 0,
     }
 }
 
 /// Whether the sizes of a statement fit, behind nodes of so many cells.
-pub(crate) fn sizes_fit(nodes: &[Node], cells: u64, body: &Body, columns: &[Column]) -> bool
+pub(crate) fn sizes_fit(nodes: &Nodes, cells: u64, body: &Body, columns: &[Column]) -> bool
     requires cells { cells ≡ cells_of nodes.now }
     requires few_cells { cells ≤ 4194304 }
     requires columns { columns.now ≡ columns_of nodes.now body.now }

@@ -6,9 +6,8 @@ ghost use Rattle.query_graph.specs.Faults.{first_fault, Passes};
 ghost use Rattle.query_graph.specs.Used.{unknown_name, unknown_node, unknown_operand};
 
 use crate::fault::GraphFault;
-use crate::names::{is_column, is_node};
-use crate::node::Node;
-use crate::nodes::node_columns;
+use crate::nodes::Nodes;
+use crate::source::Source;
 use query_text::{AggregateText, Body, Bytes, ItemText, OperandText, TestText};
 use std::alloc::Global;
 use words::{Column, Label};
@@ -25,8 +24,8 @@ pub(crate) trait Uses: Sized {
         &self,
         alloc: Global,
         line: u32,
-        left: &[Column],
-        right: &[Column],
+        left: &Source,
+        right: &Source,
     ) -> Result<(), GraphFault>
         ensures { Passes result (unknown line left.now right.now self.now) };
 }
@@ -35,7 +34,7 @@ pub(crate) trait Uses: Sized {
 pub(crate) fn check_known(
     alloc: Global,
     line: u32,
-    nodes: &[Node],
+    nodes: &Nodes,
     body: &Body,
 ) -> Result<(), GraphFault>
     ensures { Passes result (unknown_name line nodes.now body.now) }
@@ -44,27 +43,27 @@ pub(crate) fn check_known(
         Body::Relation(_) => Ok(()),
         Body::Filter(f) => {
             check_node_known(alloc, line, nodes, &f.source)?;
-            let source = node_columns(nodes, &f.source);
-            check_all_known(alloc, line, source, source, f.tests.as_slice())
+            let source = nodes.source(&f.source);
+            check_all_known(alloc, line, &source, &source, f.tests.as_slice())
         }
         Body::Select(s) => {
             check_node_known(alloc, line, nodes, &s.source)?;
-            let source = node_columns(nodes, &s.source);
-            check_all_known(alloc, line, source, source, s.items.as_slice())
+            let source = nodes.source(&s.source);
+            check_all_known(alloc, line, &source, &source, s.items.as_slice())
         }
         Body::Concat(c) => check_nodes_known(alloc, line, nodes, c.sources.as_slice()),
         Body::Join(j) => {
             check_node_known(alloc, line, nodes, &j.left)?;
             check_node_known(alloc, line, nodes, &j.right)?;
-            let left = node_columns(nodes, &j.left);
-            let right = node_columns(nodes, &j.right);
-            check_all_known(alloc, line, left, right, j.keys.as_slice())
+            let left = nodes.source(&j.left);
+            let right = nodes.source(&j.right);
+            check_all_known(alloc, line, &left, &right, j.keys.as_slice())
         }
         Body::Group(g) => {
             check_node_known(alloc, line, nodes, &g.source)?;
-            let source = node_columns(nodes, &g.source);
-            check_all_known(alloc, line, source, source, g.keys.as_slice())?;
-            check_all_known(alloc, line, source, source, g.aggregates.as_slice())
+            let source = nodes.source(&g.source);
+            check_all_known(alloc, line, &source, &source, g.keys.as_slice())?;
+            check_all_known(alloc, line, &source, &source, g.aggregates.as_slice())
         }
         Body::Distinct(d) => check_node_known(alloc, line, nodes, &d.source),
         Body::Output(o) => check_node_known(alloc, line, nodes, &o.node),
@@ -75,8 +74,8 @@ pub(crate) fn check_known(
 fn check_all_known<P: Uses>(
     alloc: Global,
     line: u32,
-    left: &[Column],
-    right: &[Column],
+    left: &Source,
+    right: &Source,
     parts: &[P],
 ) -> Result<(), GraphFault>
     ensures { Passes result (first_fault (P.unknown line left.now right.now) parts.now) }
@@ -88,15 +87,10 @@ fn check_all_known<P: Uses>(
 }
 
 // Whether an earlier node has this name.
-fn check_node_known(
-    alloc: Global,
-    line: u32,
-    nodes: &[Node],
-    name: &Bytes,
-) -> Result<(), GraphFault>
+fn check_node_known(alloc: Global, line: u32, nodes: &Nodes, name: &Bytes) -> Result<(), GraphFault>
     ensures { Passes result (unknown_node line nodes.now name.now) }
 {
-    if is_node(nodes, name.bytes()) {
+    if nodes.has(name.bytes()) {
         return Ok(());
     }
     let name = Label::new(alloc, name.bytes())?;
@@ -107,7 +101,7 @@ fn check_node_known(
 fn check_nodes_known(
     alloc: Global,
     line: u32,
-    nodes: &[Node],
+    nodes: &Nodes,
     names: &[Bytes],
 ) -> Result<(), GraphFault>
     ensures { Passes result (first_fault (unknown_node line nodes.now) names.now) }
@@ -121,8 +115,8 @@ fn check_nodes_known(
 fn check_operand_known(
     alloc: Global,
     line: u32,
-    left: &[Column],
-    right: &[Column],
+    left: &Source,
+    right: &Source,
     operand: &OperandText,
 ) -> Result<(), GraphFault>
     ensures { Passes result (unknown_operand line left.now right.now operand.now) }
@@ -145,10 +139,10 @@ impl Uses for Bytes {
         &self,
         alloc: Global,
         line: u32,
-        left: &[Column],
-        right: &[Column],
+        left: &Source,
+        right: &Source,
     ) -> Result<(), GraphFault> {
-        if is_column(left, self.bytes()) && is_column(right, self.bytes()) {
+        if left.has(self.bytes()) && right.has(self.bytes()) {
             return Ok(());
         }
         let name = Label::new(alloc, self.bytes())?;
@@ -165,8 +159,8 @@ impl Uses for TestText {
         &self,
         alloc: Global,
         line: u32,
-        left: &[Column],
-        right: &[Column],
+        left: &Source,
+        right: &Source,
     ) -> Result<(), GraphFault> {
         check_operand_known(alloc, line, left, right, &self.left)?;
         check_operand_known(alloc, line, left, right, &self.right)
@@ -182,8 +176,8 @@ impl Uses for ItemText {
         &self,
         alloc: Global,
         line: u32,
-        left: &[Column],
-        right: &[Column],
+        left: &Source,
+        right: &Source,
     ) -> Result<(), GraphFault> {
         match self {
             ItemText::Same(name) => name.check_known(alloc, line, left, right),
@@ -207,8 +201,8 @@ impl Uses for AggregateText {
         &self,
         alloc: Global,
         line: u32,
-        left: &[Column],
-        right: &[Column],
+        left: &Source,
+        right: &Source,
     ) -> Result<(), GraphFault> {
         match self {
             AggregateText::Sum(_, name) => name.check_known(alloc, line, left, right),

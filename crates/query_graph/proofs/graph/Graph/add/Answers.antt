@@ -7,18 +7,16 @@ use Rattle.query_graph.proofs.graph.Graph.add.Goals as goal
 
 pub invariant_of-self-2 : goal.invariant_of-self-2
 invariant_of-self-2 c =
-    let nodes = c.as_slice-nodes.ensures.value in
+    let width : c.len-2.result ≡ length c.in_ok-columns.columns.items = grind arith in
     let outputs = c.as_slice-outputs.ensures.value in
-    let passes = no_fault (content_of c.self.inside) c.args.line c.args.body.now (rw nodes at c.in_ok-check_known.ensures) (rw outputs at (rw nodes at c.in_ok-check_rules.ensures.rules)) in
-    let width : c.len.result ≡ length c.in_ok-columns.columns.items = grind arith in
-    built_node c.self.inside _ c.in_ok-node.node c.from.result c.len.result c.args.line c.args.body.now c.self.invariant c.requires.form passes
-    (sym (rw nodes at c.in_default.ensures)) (rw nodes at c.in_ok-check_rules.ensures.sizes) (grind arith) (rw nodes at c.in_ok-node.ensures)
-    c.in_ok-push-2.ensures.items refl refl (c.from.ensures ∙ (rw nodes at c.rows_of-rows.ensures)) (width ∙ ap length (rw nodes at c.in_ok-columns.ensures))
+    let passes = no_fault (content_of c.self.inside) c.args.line c.args.body.now c.in_ok-check_known.ensures (rw outputs at c.in_ok-names.ensures.rules) in
+    built_node c.self.inside _ c.in_ok-node.node c.from.result c.len-2.result c.args.line c.args.body.now c.self.invariant c.requires.form passes
+    (sym c.in_default.ensures) c.in_ok-names.ensures.sizes (grind arith) c.in_ok-node.ensures
+    c.in_ok-push-2.ensures.added refl refl (c.from.ensures ∙ c.rows_of-rows.ensures) (width ∙ ap length c.in_ok-columns.ensures)
 
 pub invariant_of-self-in-Some : goal.invariant_of-self-in-Some
 invariant_of-self-in-Some c =
-    let nodes = c.as_slice-nodes.ensures.value in
     let outputs = c.as_slice-outputs.ensures.value in
-    let passes = no_fault (content_of c.self.inside) c.args.line c.args.body.now (rw nodes at c.in_ok-check_known.ensures) (rw outputs at (rw nodes at c.in_ok-check_rules.ensures.rules)) in
+    let passes = no_fault (content_of c.self.inside) c.args.line c.args.body.now c.in_ok-check_known.ensures (rw outputs at c.in_ok-names.ensures.rules) in
     built_output c.self.inside _ c.in-Some.output c.args.line c.args.body.now c.self.invariant passes
-    (sym (rw nodes at c.in-Some.ensures)) refl c.in_ok-push.ensures.items refl
+    (sym c.in-Some.ensures) refl c.in_ok-push.ensures.items refl

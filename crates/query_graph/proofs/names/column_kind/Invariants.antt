@@ -1,7 +1,0 @@
-use Rattle.std.proofs.Common.{◌≡◌, drop}
-use Rattle.query_graph.specs.Names.{column_kind}
-use Rattle.query_graph.proofs.names.column_kind.Given as goal
-
--- no column so far has the name
-abbrev pub invariant-loop-column : goal.invariant-loop-column
-invariant-loop-column l = column_kind l.columns l.name ≡ column_kind (drop l.column-index l.columns) l.name
