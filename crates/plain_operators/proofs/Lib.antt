@@ -5,9 +5,11 @@ pub mod GroupPlaces
 pub mod Groups
 pub mod Joins
 pub mod KeyPlaces
+pub mod Limits
 pub mod Lists
 pub mod Picks
 pub mod Places
 pub mod Regroup
 pub mod Sizes
 pub mod Steps
+pub mod Words

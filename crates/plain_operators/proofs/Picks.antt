@@ -1,12 +1,11 @@
 -- Rows by their places: those with some keys, in a group and in a join.
-use Rattle.std.proofs.Common.{◌≡◌, ℕ, zero, suc, ◌+◌, ◌-◌, ◌<◌, List, [], ◌∷◌, ◌++◌, Option, Some, None, map, take, length, refl, sym, ◌∙◌, ap, arith}
+use Rattle.std.proofs.Common.{◌≡◌, ℕ, ◌+◌, ◌<◌, List, [], map, length, sym, ◌∙◌, ap, arith}
 use Rattle.std.specs.List.{All, filter, range_with_len}
 use Rattle.std.specs.Cmp.Lexicographic.{nat_list_eq_equiv}
-use Rattle.std.proofs.lemmas.List.{get_or-map, length-map, take-map}
-use Rattle.std.proofs.lemmas.List.Elements.{All-filter, All-take, All-weaker, filter_agree}
+use Rattle.std.proofs.lemmas.List.{get_or-map, length-map}
+use Rattle.std.proofs.lemmas.List.Elements.{All-filter, All-weaker, filter_agree}
 use Rattle.bags.specs.Bag.{row_eq}
 use Rattle.plain_operators.specs.Columns.{cut}
-use Rattle.plain_operators.specs.Limits.{first_of, left_of}
 use Rattle.plain_operators.specs.Operators.{have_equal_keys, joined_row, joined_rows_of, left_keys, right_keys, rows_with}
 use Rattle.plain_operators.specs.Places.{places_of, places_with, row_at}
 use Rattle.plain_operators.proofs.Lists.{filter_agree_on, map_map, range_below}
@@ -32,23 +31,3 @@ joined_by_places keys rights left =
     let key = cut (left_keys keys) left in
     let turned = filter_agree (have_equal_keys keys left) (λ right. row_eq (cut (right_keys keys) right) key) (λ right. nat_list_eq_equiv.symm key (cut (right_keys keys) right)) rights in
     ap (map (joined_row keys left)) (turned ∙ rows_by_places (right_keys keys) rights key) ∙ map_map (joined_row keys left) (row_at rights) (places_with (map (cut (right_keys keys)) rights) key)
-
-pub first_of-map : {X Y : Type 0} (limit : Option ℕ) (f : X → Y) (xs : List X) → first_of limit (map f xs) ≡ map f (first_of limit xs)
-first_of-map None f xs = refl
-first_of-map (Some limit) f xs = take-map f limit xs
-
-pub All-first_of : {X : Type 0} (limit : Option ℕ) (P : X → Type 0) (xs : List X) → All P xs → All P (first_of limit xs)
-All-first_of None P xs all = all
-All-first_of (Some limit) P xs all = All-take P limit xs all
-
-taken : {X : Type 0} (limit : ℕ) (xs ys : List X) → take limit xs ++ take (limit - length (take limit xs)) ys ≡ take limit (xs ++ ys)
-taken zero xs ys = refl
-taken (suc limit) [] ys = let all : suc limit - 0 ≡ suc limit = omega arith in ap (λ n. take n ys) all
-taken (suc limit) (x ∷ xs) ys =
-    let n = length (take limit xs) in
-    let one : suc limit - suc n ≡ limit - n = omega arith in
-    ap (λ l. x ∷ l) (ap (λ m. take limit xs ++ take m ys) one ∙ taken limit xs ys)
-
-pub first_of-append : {X : Type 0} (limit : Option ℕ) (xs ys : List X) → first_of limit xs ++ first_of (left_of limit (length (first_of limit xs))) ys ≡ first_of limit (xs ++ ys)
-first_of-append None xs ys = refl
-first_of-append (Some limit) xs ys = taken limit xs ys

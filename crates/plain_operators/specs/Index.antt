@@ -1,5 +1,5 @@
 -- An index of rows: the number of each row among the distinct ones, and the places of each of these.
-use Rattle.std.specs.Prelude.{◌≡◌, ℕ, suc, cond, Option, Some, None, List, [], ◌∷◌, map}
+use Rattle.std.specs.Prelude.{◌≡◌, ℕ, suc, cond, Option, Some, None, List, [], ◌∷◌, ◌++◌, map, slice_index_or, slice_set}
 use Rattle.std.specs.Option.{option_map}
 use Rattle.std.specs.Ordering.{nat_cmp}
 use Rattle.std.specs.Cmp.Lexicographic.{slice_cmp}
@@ -24,3 +24,7 @@ indexed index = map (λ row. row.now) index.rows.now
 
 abbrev pub IsIndex : Inside → Type 0
 IsIndex index = GathersPlaces (λ row. get_by (λ k. slice_cmp nat_cmp row k.now) index.numbers) (map (λ places. places.items) index.groups.items) (indexed index)
+
+-- groups of places of which one gets one more
+abbrev pub with_place : List (List ℕ) → ℕ → ℕ → List (List ℕ)
+with_place groups number place = slice_set groups number (slice_index_or groups number [] ++ place ∷ [])

@@ -7,5 +7,6 @@ pub mod Limits
 pub mod Operators
 pub mod Places
 pub mod Regroup
+pub mod Rows
 pub mod Sizes
 pub mod Within

@@ -1,9 +1,12 @@
 -- Filter and join by the places of rows, and aggregates as folds over words.
-use Rattle.std.specs.Prelude.{◌≡◌, ℕ, ◌+◌, ◌%◌, ◌^◌, ◌<◌, Bool, List, [], length, map, slice_index_or}
+use Rattle.std.specs.Prelude.{◌≡◌, ℕ, ◌+◌, ◌%◌, ◌^◌, ◌<◌, Bool, List, [], Vec, length, map, slice_index_or}
+use Rattle.std.specs.Global.{Global}
 use Rattle.std.specs.List.{All, filter, flat_map, fold, list_all, range_with_len}
 use Rattle.bags.specs.Bag.{row_eq}
 use Rattle.plain_operators.specs.Columns.{cut, word_at}
+use Rattle.plain_operators.specs.declared.aggregate.Aggregate.{Aggregate}
 use Rattle.plain_operators.specs.declared.aggregate.Aggregate.TheVariants.{Sum, Count}
+use Rattle.plain_operators.specs.Laws.{block_row}
 use Rattle.plain_operators.specs.Operators.{aggregated, distinct_rows, have_equal_keys, joined_row, joined_rows, joined_words, kept_rows}
 
 -- the places of a list of rows, from 0
@@ -58,3 +61,15 @@ joined_rows_at lefts rights rows left places = map (λ place. joined_words lefts
 -- the joined rows of a left row and the right rows that have its keys, found among the cut right rows
 abbrev pub joined_rows_found : List ℕ → List ℕ → List (List ℕ) → List (List ℕ) → List ℕ → List (List ℕ)
 joined_rows_found lefts rights rows cuts left = joined_rows_at lefts rights rows left (places_with cuts (cut lefts left))
+
+-- the joined rows of all left rows, found so
+abbrev pub rows_found : List ℕ → List ℕ → List (List ℕ) → List (List ℕ) → List (List ℕ) → List (List ℕ)
+rows_found lefts rights rows cuts left_rows = flat_map (joined_rows_found lefts rights rows cuts) left_rows
+
+-- the row of a group, by the places of its rows
+abbrev pub row_of_places : List ℕ → List Aggregate → List (List ℕ) → List ℕ → List ℕ
+row_of_places keys aggregates rows places = block_row keys aggregates (map (row_at rows) places)
+
+-- the rows of groups, by the places of their rows
+abbrev pub rows_of_places : List ℕ → List Aggregate → List (List ℕ) → List (Vec ℕ Global) → List (List ℕ)
+rows_of_places keys aggregates rows groups = map (λ places. row_of_places keys aggregates rows places.items) groups

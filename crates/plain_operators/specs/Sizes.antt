@@ -3,6 +3,11 @@ use Rattle.std.specs.Prelude.{◌≡◌, ℕ, ◌+◌, ◌*◌, ◌^◌, ◌<◌
 use Rattle.std.specs.List.{All}
 use Rattle.plain_operators.specs.Columns.{other_columns}
 use Rattle.plain_operators.specs.declared.aggregate.Aggregate.{Aggregate}
+use Rattle.plain_operators.specs.declared.item.Item.{Item}
+use Rattle.plain_operators.specs.declared.item.Item.TheVariants.{Plain, Computed}
+use Rattle.plain_operators.specs.declared.item.Operand.{Operand}
+use Rattle.plain_operators.specs.declared.item.Operand.TheVariants.{Column, Constant}
+use Rattle.plain_operators.specs.Items.{item_word}
 use Rattle.plain_operators.specs.Operators.{distinct_rows, grouped_rows, joined_rows, kept_rows, left_keys, right_keys, rows_of_items, whole_table_rows}
 
 -- each row has so many words
@@ -12,6 +17,19 @@ AllWide width rows = All (λ row. length row ≡ width) rows
 -- each word of a row is below 2^64
 abbrev pub IsOfWords : List ℕ → Type 0
 IsOfWords row = All (λ word. word < 2 ^ 64) row
+
+-- each constant of an item is a word
+abbrev pub HasWordConstant : Operand → Type 0
+HasWordConstant (Column column) = Unit {0}
+HasWordConstant (Constant word) = word < 2 ^ 64
+
+abbrev pub HasWordConstants : Item → Type 0
+HasWordConstants (Plain operand) = HasWordConstant operand
+HasWordConstants (Computed left operation right) = HasWordConstant left × HasWordConstant right
+
+-- items give words for rows of words
+abbrev pub ItemsGiveWords : Type 0
+ItemsGiveWords = (item : Item) (row : List ℕ) → HasWordConstants item → IsOfWords row → item_word item row < 2 ^ 64
 
 -- the words of a joined row, from the widths of the left and the right
 abbrev pub joined_width : List (ℕ × ℕ) → ℕ → ℕ → ℕ

@@ -1,5 +1,6 @@
 -- Which columns a row must have for what is asked of it.
-use Rattle.std.specs.Prelude.{ℕ, ◌<◌, List}
+use Rattle.std.specs.Prelude.{ℕ, ◌<◌, List, length}
+use Rattle.std.specs.Borrow.{Bor}
 use Rattle.std.specs.List.{All}
 use Rattle.plain_operators.specs.declared.aggregate.Aggregate.{Aggregate}
 use Rattle.plain_operators.specs.declared.aggregate.Aggregate.TheVariants.{Sum, Count, Least, Greatest}
@@ -30,3 +31,17 @@ IsAggregateOf width (Sum column) = column < width
 IsAggregateOf width Count = Unit {0}
 IsAggregateOf width (Least column) = column < width
 IsAggregateOf width (Greatest column) = column < width
+
+-- all of them
+abbrev pub AreTestsOf : List Test → ℕ → Type 0
+AreTestsOf tests width = All (IsTestOf width) tests
+
+abbrev pub AreItemsOf : List Item → ℕ → Type 0
+AreItemsOf items width = All (IsItemOf width) items
+
+abbrev pub AreAggregatesOf : List Aggregate → ℕ → Type 0
+AreAggregatesOf aggregates width = All (IsAggregateOf width) aggregates
+
+-- each row that is lent has what is asked of a row of its width
+abbrev pub EachFits : (ℕ → Type 0) → List (Bor (List ℕ)) → Type 0
+EachFits asked rows = All (λ row. asked (length row.now)) rows

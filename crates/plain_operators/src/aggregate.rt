@@ -1,6 +1,7 @@
-ghost use Rattle.std.specs.Prelude.{◌≡◌, ◌<◌, length, map};
+ghost use Rattle.std.specs.Prelude.{◌≡◌, ◌<◌, length};
 ghost use Rattle.std.specs.List.{All};
 ghost use Rattle.plain_operators.specs.Operators as plain;
+ghost use Rattle.plain_operators.specs.Rows.{lent};
 ghost use Rattle.plain_operators.specs.Within.{IsAggregateOf};
 
 /// What a group says of its rows: the sum of a column modulo 2^64, how many there are, or the least or the greatest
@@ -17,7 +18,7 @@ impl Aggregate {
     // The aggregate over rows.
     pub(crate) fn over(self, rows: &[&[u64]]) -> u64
         requires { All (λ row. IsAggregateOf (length row.now) self) rows.now }
-        ensures { result ≡ plain.aggregated self (map (λ row. row.now) rows.now) }
+        ensures { result ≡ plain.aggregated self (lent rows.now) }
     {
         match self {
             Aggregate::Sum(column) => sum(column, rows),
@@ -32,7 +33,7 @@ impl Aggregate {
 // The sum of a column modulo 2^64.
 fn sum(column: u32, rows: &[&[u64]]) -> u64
     requires { All (λ row. column < length row.now) rows.now }
-    ensures { result ≡ plain.aggregated (Aggregate.Sum column) (map (λ row. row.now) rows.now) }
+    ensures { result ≡ plain.aggregated (Aggregate.Sum column) (lent rows.now) }
 {
     let mut total = 0u64;
     for row in rows {
@@ -45,7 +46,7 @@ fn sum(column: u32, rows: &[&[u64]]) -> u64
 // The least word of a column.
 fn least(column: u32, rows: &[&[u64]]) -> u64
     requires { All (λ row. column < length row.now) rows.now }
-    ensures { result ≡ plain.aggregated (Aggregate.Least column) (map (λ row. row.now) rows.now) }
+    ensures { result ≡ plain.aggregated (Aggregate.Least column) (lent rows.now) }
 {
     let mut best = u64::MAX;
     for row in rows {
@@ -58,7 +59,7 @@ fn least(column: u32, rows: &[&[u64]]) -> u64
 // The greatest word of a column.
 fn greatest(column: u32, rows: &[&[u64]]) -> u64
     requires { All (λ row. column < length row.now) rows.now }
-    ensures { result ≡ plain.aggregated (Aggregate.Greatest column) (map (λ row. row.now) rows.now) }
+    ensures { result ≡ plain.aggregated (Aggregate.Greatest column) (lent rows.now) }
 {
     let mut best = 0u64;
     for row in rows {

@@ -1,9 +1,10 @@
 //! Rows cut to columns.
 
 ghost use Rattle.std.specs.Prelude.{◌≡◌, ◌++◌, ◌==◌, length, map, IfOk, OnOk};
-ghost use Rattle.std.specs.List.{All, list_any};
+ghost use Rattle.std.specs.List.{list_any};
 ghost use Rattle.plain_operators.specs.Columns as plain;
-ghost use Rattle.plain_operators.specs.Within.{HasColumns};
+ghost use Rattle.plain_operators.specs.Rows.{lent, owned};
+ghost use Rattle.plain_operators.specs.Within.{EachFits, HasColumns};
 
 use std::alloc::{AllocError, Global};
 
@@ -42,8 +43,8 @@ pub(crate) fn cut_rows(
     columns: &[u32],
     rows: &[&[u64]],
 ) -> Result<Vec<Vec<u64>>, AllocError>
-    requires { All (λ row. HasColumns columns.now (length row.now)) rows.now }
-    ensures { IfOk result (λ made. map (λ row. row.items) made.items ≡ map (plain.cut columns.now) (map (λ row. row.now) rows.now)) }
+    requires { EachFits (HasColumns columns.now) rows.now }
+    ensures { IfOk result (λ made. owned made.items ≡ map (plain.cut columns.now) (lent rows.now)) }
 {
     let mut made = Vec::new(alloc);
     for row in rows {
@@ -56,7 +57,7 @@ pub(crate) fn cut_rows(
 
 // The rows, lent.
 pub(crate) fn lend(alloc: Global, rows: &[Vec<u64>]) -> Result<Vec<&[u64]>, AllocError>
-    ensures { IfOk result (λ lent. map (λ row. row.now) lent.items ≡ map (λ row. row.items) rows.now) }
+    ensures { IfOk result (λ made. lent made.items ≡ owned rows.now) }
 {
     let mut lent = Vec::new(alloc);
     for row in rows {

@@ -1,18 +1,30 @@
-ghost use Rattle.std.specs.Prelude.{◌≡◌, map, IfOk};
+ghost use Rattle.std.specs.Prelude.{◌≡◌, IfOk};
+ghost use Rattle.plain_operators.specs.Limits.{first_of};
 ghost use Rattle.plain_operators.specs.Operators as plain;
+ghost use Rattle.plain_operators.specs.Rows.{lent};
 
+use crate::limit::is_reached;
 use std::alloc::{AllocError, Global};
 use std::collections::BTreeSet;
 
 /// Each row at its first occurrence, in order, by a look-up for each row in a set of those seen.
 ///
-/// The rows are lent and none is copied. Takes n log n comparisons of rows.
-pub fn distinct_rows<'a>(alloc: Global, rows: &[&'a [u64]]) -> Result<Vec<&'a [u64]>, AllocError>
-    ensures { IfOk result (λ kept. map (λ row. row.now) kept.items ≡ plain.distinct_rows (map (λ row. row.now) rows.now)) }
+/// The rows are lent and none is copied. With a limit these are the first, so many at most, and no row behind the last
+/// of them is looked up. Takes n log n comparisons of rows.
+pub fn distinct_rows<'a>(
+    alloc: Global,
+    rows: &[&'a [u64]],
+    limit: Option<usize>,
+) -> Result<Vec<&'a [u64]>, AllocError>
+    ensures { IfOk result (λ kept. lent kept.items
+        ≡ first_of limit (plain.distinct_rows (lent rows.now))) }
 {
     let mut seen = BTreeSet::new(alloc);
     let mut kept = Vec::new(alloc);
     for row in rows {
+        if is_reached(limit, kept.len()) {
+            return Ok(kept);
+        }
         if seen.insert(*row)? {
             kept.push(*row)?;
         }
@@ -36,7 +48,10 @@ mod tests {
             (&[&[1], &[1, 0], &[], &[1], &[]], &[&[1], &[1, 0], &[]]),
         ];
         for (rows, want) in cases {
-            assert!(rt; distinct_rows(rt.alloc(), rows)?.as_slice() == want);
+            for limit in [None, Some(0), Some(1), Some(9)] {
+                let first = &want[..limit.unwrap_or(9).min(want.len())];
+                assert!(rt; distinct_rows(rt.alloc(), rows, limit)?.as_slice() == first);
+            }
         }
         Ok(())
     }

@@ -1,31 +1,39 @@
 ghost use Rattle.std.specs.Prelude.{◌≡◌, ◌<◌, ◌++◌, length, map, IfOk, OnOk};
 ghost use Rattle.std.specs.List.{All};
 ghost use Rattle.plain_operators.specs.Laws.{block_row};
+ghost use Rattle.plain_operators.specs.Limits.{first_of};
 ghost use Rattle.plain_operators.specs.Operators as plain;
-ghost use Rattle.plain_operators.specs.Places.{ArePlaces, row_at};
-ghost use Rattle.plain_operators.specs.Within.{HasColumns, IsAggregateOf};
+ghost use Rattle.plain_operators.specs.Places.{ArePlaces, row_at, row_of_places, rows_of_places};
+ghost use Rattle.plain_operators.specs.Rows.{lent, owned};
+ghost use Rattle.plain_operators.specs.Within.{AreAggregatesOf, EachFits, HasColumns};
 
 use crate::aggregate::Aggregate;
 use crate::cut::{add_cut, cut_rows, lend};
 use crate::key_places::grouped_places;
+use crate::limit::first_of;
 use std::alloc::{AllocError, Global};
 
 /// One row for each list of keys that occurs, in the order of the first rows: the keys, then the aggregates over the
-/// rows with these keys. Takes n log n comparisons of keys.
+/// rows with these keys.
+///
+/// With a limit these are the first, so many at most, and no other is made; but the places of all groups are gathered.
+/// Takes n log n comparisons of keys.
 pub fn grouped_rows(
     alloc: Global,
     keys: &[u32],
     aggregates: &[Aggregate],
     rows: &[&[u64]],
+    limit: Option<usize>,
 ) -> Result<Vec<Vec<u64>>, AllocError>
-    requires of_keys { All (λ row. HasColumns keys.now (length row.now)) rows.now }
-    requires of_aggregates { All (λ row. All (IsAggregateOf (length row.now)) aggregates.now) rows.now }
-    ensures { IfOk result (λ made. map (λ row. row.items) made.items ≡ plain.grouped_rows keys.now aggregates.now (map (λ row. row.now) rows.now)) }
+    requires of_keys { EachFits (HasColumns keys.now) rows.now }
+    requires of_aggregates { EachFits (AreAggregatesOf aggregates.now) rows.now }
+    ensures { IfOk result (λ made. owned made.items
+        ≡ first_of limit (plain.grouped_rows keys.now aggregates.now (lent rows.now))) }
 {
     let cut = cut_rows(alloc, keys, rows)?;
     let lent = lend(alloc, &cut)?;
     let groups = grouped_places(alloc, &lent)?;
-    rows_of_groups(alloc, keys, aggregates, rows, &groups)
+    rows_of_groups(alloc, keys, aggregates, rows, first_of(&groups, limit))
 }
 
 // One row for each group, by the places of its rows.
@@ -36,11 +44,11 @@ fn rows_of_groups(
     rows: &[&[u64]],
     groups: &[Vec<usize>],
 ) -> Result<Vec<Vec<u64>>, AllocError>
-    requires of_keys { All (λ row. HasColumns keys.now (length row.now)) rows.now }
-    requires of_aggregates { All (λ row. All (IsAggregateOf (length row.now)) aggregates.now) rows.now }
+    requires of_keys { EachFits (HasColumns keys.now) rows.now }
+    requires of_aggregates { EachFits (AreAggregatesOf aggregates.now) rows.now }
     requires of_rows { All (λ places. ArePlaces (length rows.now) places.items) groups.now }
-    ensures { IfOk result (λ made. map (λ row. row.items) made.items
-        ≡ map (λ places. block_row keys.now aggregates.now (map (row_at (map (λ row. row.now) rows.now)) places.items)) groups.now) }
+    ensures { IfOk result (λ made. owned made.items
+        ≡ rows_of_places keys.now aggregates.now (lent rows.now) groups.now) }
 {
     let mut made = Vec::new(alloc);
     for places in groups {
@@ -57,10 +65,11 @@ fn row_of_group(
     rows: &[&[u64]],
     places: &[usize],
 ) -> Result<Vec<u64>, AllocError>
-    requires of_keys { All (λ row. HasColumns keys.now (length row.now)) rows.now }
-    requires of_aggregates { All (λ row. All (IsAggregateOf (length row.now)) aggregates.now) rows.now }
+    requires of_keys { EachFits (HasColumns keys.now) rows.now }
+    requires of_aggregates { EachFits (AreAggregatesOf aggregates.now) rows.now }
     requires of_rows { ArePlaces (length rows.now) places.now }
-    ensures { IfOk result (λ words. words.items ≡ block_row keys.now aggregates.now (map (row_at (map (λ row. row.now) rows.now)) places.now)) }
+    ensures { IfOk result (λ words. words.items
+        ≡ row_of_places keys.now aggregates.now (lent rows.now) places.now) }
 {
     let block = rows_at(alloc, rows, places)?;
     row_of_block(alloc, keys, aggregates, &block)
@@ -72,8 +81,9 @@ pub fn whole_table_rows(
     aggregates: &[Aggregate],
     rows: &[&[u64]],
 ) -> Result<Vec<Vec<u64>>, AllocError>
-    requires { All (λ row. All (IsAggregateOf (length row.now)) aggregates.now) rows.now }
-    ensures { IfOk result (λ made. map (λ row. row.items) made.items ≡ plain.whole_table_rows aggregates.now (map (λ row. row.now) rows.now)) }
+    requires { EachFits (AreAggregatesOf aggregates.now) rows.now }
+    ensures { IfOk result (λ made. owned made.items
+        ≡ plain.whole_table_rows aggregates.now (lent rows.now)) }
 {
     let mut made = Vec::new(alloc);
     if !rows.is_empty() {
@@ -91,7 +101,7 @@ fn rows_at<'a>(
     places: &[usize],
 ) -> Result<Vec<&'a [u64]>, AllocError>
     requires { All (λ place. place < length rows.now) places.now }
-    ensures { IfOk result (λ block. map (λ row. row.now) block.items ≡ map (row_at (map (λ row. row.now) rows.now)) places.now) }
+    ensures { IfOk result (λ block. lent block.items ≡ map (row_at (lent rows.now)) places.now) }
 {
     let mut block = Vec::new(alloc);
     for place in places {
@@ -108,9 +118,10 @@ fn row_of_block(
     block: &[&[u64]],
 ) -> Result<Vec<u64>, AllocError>
     requires filled { 0 < length block.now }
-    requires of_keys { All (λ row. HasColumns keys.now (length row.now)) block.now }
-    requires of_aggregates { All (λ row. All (IsAggregateOf (length row.now)) aggregates.now) block.now }
-    ensures { IfOk result (λ words. words.items ≡ block_row keys.now aggregates.now (map (λ row. row.now) block.now)) }
+    requires of_keys { EachFits (HasColumns keys.now) block.now }
+    requires of_aggregates { EachFits (AreAggregatesOf aggregates.now) block.now }
+    ensures { IfOk result (λ words. words.items
+        ≡ block_row keys.now aggregates.now (lent block.now)) }
 {
     let mut words = Vec::new(alloc);
     add_cut(keys, block[0], &mut words)?;
@@ -124,8 +135,9 @@ fn add_aggregates(
     rows: &[&[u64]],
     words: &mut Vec<u64>,
 ) -> Result<(), AllocError>
-    requires { All (λ row. All (IsAggregateOf (length row.now)) aggregates.now) rows.now }
-    ensures { OnOk result (words.new.items ≡ words.old.items ++ plain.aggregates_of aggregates.now (map (λ row. row.now) rows.now)) }
+    requires { EachFits (AreAggregatesOf aggregates.now) rows.now }
+    ensures { OnOk result (words.new.items
+        ≡ words.old.items ++ plain.aggregates_of aggregates.now (lent rows.now)) }
 {
     for aggregate in aggregates {
         words.push(aggregate.over(rows))?;
@@ -149,10 +161,12 @@ mod tests {
     fn groups_by_keys_in_the_order_of_first_rows(rt: HostRuntime) -> Result<(), Fail> {
         let rows: [&[u64]; 4] = [&[7, 18446744073709551615], &[5, 4], &[7, 2], &[7, 2]];
         let want: [&[u64]; 2] = [&[7, 3, 3, 2, 18446744073709551615], &[5, 4, 1, 4, 4]];
-        let made = grouped_rows(rt.alloc(), &[0], &ALL, &rows)?;
-        assert_eq!(rt; made.len(), want.len());
-        for (row, wanted) in made.iter().zip(want) {
-            assert!(rt; row.as_slice() == wanted);
+        for (limit, count) in [(None, 2), (Some(0), 0), (Some(1), 1), (Some(9), 2)] {
+            let made = grouped_rows(rt.alloc(), &[0], &ALL, &rows, limit)?;
+            assert_eq!(rt; made.len(), count);
+            for (row, wanted) in made.iter().zip(want) {
+                assert!(rt; row.as_slice() == wanted);
+            }
         }
         Ok(())
     }

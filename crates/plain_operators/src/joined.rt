@@ -1,12 +1,14 @@
 ghost use Rattle.std.specs.Prelude.{◌≡◌, ◌<◌, ◌++◌, length, map, vec_len, IfOk, OnOk};
-ghost use Rattle.std.specs.List.{All, flat_map};
+ghost use Rattle.std.specs.List.{All};
 ghost use Rattle.plain_operators.specs.Limits.{first_of, left_of};
 ghost use Rattle.plain_operators.specs.Operators as plain;
-ghost use Rattle.plain_operators.specs.Places.{joined_rows_at, joined_rows_found};
-ghost use Rattle.plain_operators.specs.Within.{HasColumns};
+ghost use Rattle.plain_operators.specs.Places.{joined_rows_at, joined_rows_found, rows_found};
+ghost use Rattle.plain_operators.specs.Rows.{lent, owned};
+ghost use Rattle.plain_operators.specs.Within.{EachFits, HasColumns};
 
 use crate::cut::{add_cut, add_others, cut_rows, lend};
 use crate::key_places::RowIndex;
+use crate::limit::{first_of, left_of};
 use std::alloc::{AllocError, Global};
 
 /// For each left row, for each right row with equal keys: the keys, then the left's other words, then the right's.
@@ -20,10 +22,10 @@ pub fn joined_rows(
     rights: &[&[u64]],
     limit: Option<usize>,
 ) -> Result<Vec<Vec<u64>>, AllocError>
-    requires of_left { All (λ row. HasColumns (plain.left_keys keys.now) (length row.now)) lefts.now }
-    requires of_right { All (λ row. HasColumns (plain.right_keys keys.now) (length row.now)) rights.now }
-    ensures { IfOk result (λ made. map (λ row. row.items) made.items
-        ≡ first_of limit (plain.joined_rows keys.now (map (λ row. row.now) lefts.now) (map (λ row. row.now) rights.now))) }
+    requires of_left { EachFits (HasColumns (plain.left_keys keys.now)) lefts.now }
+    requires of_right { EachFits (HasColumns (plain.right_keys keys.now)) rights.now }
+    ensures { IfOk result (λ made. owned made.items
+        ≡ first_of limit (plain.joined_rows keys.now (lent lefts.now) (lent rights.now))) }
 {
     let left_keys = left_keys(alloc, keys)?;
     let right_keys = right_keys(alloc, keys)?;
@@ -55,10 +57,11 @@ fn rows_found(
     index: &RowIndex<'_>,
     limit: Option<usize>,
 ) -> Result<Vec<Vec<u64>>, AllocError>
-    requires of_left { All (λ left. HasColumns left_keys.now (length left.now)) lefts.now }
+    requires of_left { EachFits (HasColumns left_keys.now) lefts.now }
     requires indexed { length index.now ≡ length rights.now }
-    ensures { IfOk result (λ made. map (λ row. row.items) made.items
-        ≡ first_of limit (flat_map (joined_rows_found left_keys.now right_keys.now (map (λ row. row.now) rights.now) index.now) (map (λ row. row.now) lefts.now))) }
+    ensures { IfOk result (λ made. owned made.items
+        ≡ first_of limit
+        (rows_found left_keys.now right_keys.now (lent rights.now) index.now (lent lefts.now))) }
 {
     let mut made = Vec::new(alloc);
     for left in lefts {
@@ -82,30 +85,14 @@ fn add_found(
 ) -> Result<(), AllocError>
     requires of_left { HasColumns left_keys.now (length left.now) }
     requires indexed { length index.now ≡ length rights.now }
-    ensures { OnOk result (map (λ row. row.items) made.new.items ≡ map (λ row. row.items) made.old.items
-        ++ first_of (left_of limit (vec_len made.old)) (joined_rows_found left_keys.now right_keys.now (map (λ row. row.now) rights.now) index.now left.now)) }
+    ensures { OnOk result (owned made.new.items ≡ owned made.old.items
+        ++ first_of (left_of limit (vec_len made.old))
+        (joined_rows_found left_keys.now right_keys.now (lent rights.now) index.now left.now)) }
 {
     let mut key = Vec::new(alloc);
     add_cut(left_keys, left, &mut key)?;
-    let places = first_places(index.places(&key), limit, made.len());
+    let places = first_of(index.places(&key), left_of(limit, made.len()));
     add_joined(alloc, left_keys, right_keys, left, rights, places, made)
-}
-
-// As many of the places as the limit lets through after so many rows.
-fn first_places(places: &[usize], limit: Option<usize>, made: usize) -> &[usize]
-    ensures { result.now ≡ first_of (left_of limit made) places.now }
-{
-    match limit {
-        None => places,
-        Some(limit) => {
-            let left = limit.saturating_sub(made);
-            if left < places.len() {
-                &places[..left]
-            } else {
-                places
-            }
-        }
-    }
 }
 
 // Adds the joined rows of a left row and the right rows at these places.
@@ -120,8 +107,8 @@ fn add_joined(
 ) -> Result<(), AllocError>
     requires of_left { HasColumns left_keys.now (length left.now) }
     requires within { All (λ place. place < length rights.now) places.now }
-    ensures { OnOk result (map (λ row. row.items) made.new.items ≡ map (λ row. row.items) made.old.items
-        ++ joined_rows_at left_keys.now right_keys.now (map (λ row. row.now) rights.now) left.now places.now) }
+    ensures { OnOk result (owned made.new.items ≡ owned made.old.items
+        ++ joined_rows_at left_keys.now right_keys.now (lent rights.now) left.now places.now) }
 {
     for place in places {
         let right = rights[*place];
@@ -139,7 +126,8 @@ fn joined_row(
     right: &[u64],
 ) -> Result<Vec<u64>, AllocError>
     requires { HasColumns left_keys.now (length left.now) }
-    ensures { IfOk result (λ words. words.items ≡ plain.joined_words left_keys.now right_keys.now left.now right.now) }
+    ensures { IfOk result (λ words. words.items
+        ≡ plain.joined_words left_keys.now right_keys.now left.now right.now) }
 {
     let mut words = Vec::new(alloc);
     add_cut(left_keys, left, &mut words)?;

@@ -1,24 +1,34 @@
 ghost use Rattle.std.specs.Prelude.{◌≡◌, length, map, IfOk};
 ghost use Rattle.std.specs.List.{All, list_all};
 ghost use Rattle.plain_operators.specs.Items.{holds_of, item_word};
+ghost use Rattle.plain_operators.specs.Limits.{first_of};
 ghost use Rattle.plain_operators.specs.Operators as plain;
-ghost use Rattle.plain_operators.specs.Within.{IsItemOf, IsTestOf};
+ghost use Rattle.plain_operators.specs.Rows.{lent, owned};
+ghost use Rattle.plain_operators.specs.Within.{AreItemsOf, AreTestsOf, EachFits, IsItemOf, IsTestOf};
 
 use crate::item::{Item, Test};
+use crate::limit::is_reached;
 use std::alloc::{AllocError, Global};
 
 #[tactic(auto, using(crate::proofs::Steps::kept_more))]
 /// The rows for which every test holds, in order. The rows are lent and none is copied.
+///
+/// With a limit these are the first, so many at most, and no row behind the last of them is tested.
 pub fn kept_rows<'a>(
     alloc: Global,
     tests: &[Test],
     rows: &[&'a [u64]],
+    limit: Option<usize>,
 ) -> Result<Vec<&'a [u64]>, AllocError>
-    requires { All (λ row. All (IsTestOf (length row.now)) tests.now) rows.now }
-    ensures { IfOk result (λ kept. map (λ row. row.now) kept.items ≡ plain.kept_rows (map holds_of tests.now) (map (λ row. row.now) rows.now)) }
+    requires { EachFits (AreTestsOf tests.now) rows.now }
+    ensures { IfOk result (λ kept. lent kept.items
+        ≡ first_of limit (plain.kept_rows (map holds_of tests.now) (lent rows.now))) }
 {
     let mut kept = Vec::new(alloc);
     for row in rows {
+        if is_reached(limit, kept.len()) {
+            return Ok(kept);
+        }
         if all_hold(tests, row) {
             kept.push(*row)?;
         }
@@ -40,8 +50,9 @@ pub fn rows_of_items(
     items: &[Item],
     rows: &[&[u64]],
 ) -> Result<Vec<Vec<u64>>, AllocError>
-    requires { All (λ row. All (IsItemOf (length row.now)) items.now) rows.now }
-    ensures { IfOk result (λ made. map (λ row. row.items) made.items ≡ plain.rows_of_items (map item_word items.now) (map (λ row. row.now) rows.now)) }
+    requires { EachFits (AreItemsOf items.now) rows.now }
+    ensures { IfOk result (λ made. owned made.items
+        ≡ plain.rows_of_items (map item_word items.now) (lent rows.now)) }
 {
     let mut made = Vec::new(alloc);
     for row in rows {
@@ -85,10 +96,12 @@ mod tests {
                 comparison,
                 right: Operand::Constant(5),
             };
-            let kept = kept_rows(rt.alloc(), &[test], &rows)?;
-            assert_eq!(rt; kept.len(), want.len());
-            for (row, number) in kept.iter().zip(want) {
-                assert!(rt; row.last() == Some(number));
+            for limit in [None, Some(0), Some(1), Some(9)] {
+                let kept = kept_rows(rt.alloc(), &[test], &rows, limit)?;
+                assert_eq!(rt; kept.len(), limit.unwrap_or(9).min(want.len()));
+                for (row, number) in kept.iter().zip(want) {
+                    assert!(rt; row.last() == Some(number));
+                }
             }
         }
         Ok(())

@@ -1,5 +1,7 @@
-ghost use Rattle.std.specs.Prelude.{◌≡◌, ◌∷◌, ◌++◌, [], ◌<◌, map, vec_len, slice_set, slice_index_or, IfOk, OnOk};
+ghost use Rattle.std.specs.Prelude.{◌≡◌, ◌∷◌, [], ◌<◌, map, vec_len, IfOk, OnOk};
+ghost use Rattle.plain_operators.specs.Index.{with_place};
 ghost use Rattle.plain_operators.specs.Places as plain;
+ghost use Rattle.plain_operators.specs.Rows.{lent, owned};
 
 use std::alloc::{AllocError, Global};
 use std::collections::BTreeMap;
@@ -27,7 +29,7 @@ impl<'a> Model for RowIndex<'a> {
 impl<'a> RowIndex<'a> {
     // The index of these rows, by a look-up for each row in a map of the distinct ones.
     pub(crate) fn new(alloc: Global, rows: &'a [&'a [u64]]) -> Result<RowIndex<'a>, AllocError>
-        ensures { IfOk result (λ index. index ≡ map (λ row. row.now) rows.now) }
+        ensures { IfOk result (λ index. index ≡ lent rows.now) }
     {
         let mut numbers = BTreeMap::new(alloc);
         let mut groups = Vec::new(alloc);
@@ -59,7 +61,7 @@ impl<'a> RowIndex<'a> {
 
     // The places of each distinct row.
     fn into_groups(self) -> Vec<Vec<usize>>
-        ensures { map (λ places. places.items) result.items ≡ plain.grouped_places self.entry }
+        ensures { owned result.items ≡ plain.grouped_places self.entry }
     {
         let RowIndex {
             rows: _,
@@ -75,7 +77,7 @@ impl<'a> RowIndex<'a> {
 /// With rows cut to keys these are the places of each group. The rows are lent and none is copied. Takes a look-up
 /// for each row in a map of the distinct ones, n log n comparisons.
 pub fn grouped_places(alloc: Global, rows: &[&[u64]]) -> Result<Vec<Vec<usize>>, AllocError>
-    ensures { IfOk result (λ groups. map (λ places. places.items) groups.items ≡ plain.grouped_places (map (λ row. row.now) rows.now)) }
+    ensures { IfOk result (λ groups. owned groups.items ≡ plain.grouped_places (lent rows.now)) }
 {
     Ok(RowIndex::new(alloc, rows)?.into_groups())
 }
@@ -83,8 +85,8 @@ pub fn grouped_places(alloc: Global, rows: &[&[u64]]) -> Result<Vec<Vec<usize>>,
 // One more place in a group.
 fn add_place(groups: &mut Vec<Vec<usize>>, number: usize, place: usize) -> Result<(), AllocError>
     requires { number < vec_len groups.old }
-    ensures { OnOk result (map (λ places. places.items) groups.new.items
-        ≡ slice_set (map (λ places. places.items) groups.old.items) number (slice_index_or (map (λ places. places.items) groups.old.items) number [] ++ place ∷ [])) }
+    ensures { OnOk result (owned groups.new.items
+        ≡ with_place (owned groups.old.items) number place) }
 {
     groups[number].push(place)?;
     Ok(())

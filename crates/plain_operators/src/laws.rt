@@ -3,7 +3,7 @@ ghost use Rattle.plain_operators.specs.Cuts.{AggregatesOfCuts, OperatorsOfCuts};
 ghost use Rattle.plain_operators.specs.Laws.{OperatorsKeepBags, OperatorsOfAppend, GroupOfBlocks, WholeTableIsGroup, DistinctIsGroup};
 ghost use Rattle.plain_operators.specs.Places.{AggregatesAreFolds, FilterOfPlaces, JoinOfPlaces};
 ghost use Rattle.plain_operators.specs.Regroup.{AggregatesOfAppend, RegroupOfParts};
-ghost use Rattle.plain_operators.specs.Sizes.{OperatorCounts, OperatorsKeepWidths, OperatorsKeepWords};
+ghost use Rattle.plain_operators.specs.Sizes.{ItemsGiveWords, OperatorCounts, OperatorsKeepWidths, OperatorsKeepWords};
 
 /// Each operator gives the same bag for the same bags.
 pub fn operators_keep_bags()
@@ -38,6 +38,11 @@ pub fn operators_keep_widths()
 /// Each operator gives words below 2^64 for such words.
 pub fn operators_keep_words()
     ensures { OperatorsKeepWords }
+{}
+
+/// Items with word constants give words below 2^64 for rows of such words.
+pub fn items_give_words()
+    ensures { ItemsGiveWords }
 {}
 
 /// How many rows each operator gives at most.

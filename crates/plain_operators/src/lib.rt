@@ -17,6 +17,7 @@ mod joined;
 mod kept;
 mod key_places;
 pub mod laws;
+mod limit;
 
 pub use aggregate::Aggregate;
 pub use distinct::distinct_rows;

@@ -3,11 +3,8 @@ use Rattle.std.specs.List.{flat_map}
 use Rattle.std.proofs.lemmas.List.{flat_map_more, length-map, map_more}
 use Rattle.plain_operators.specs.Limits.{first_of, left_of}
 use Rattle.plain_operators.specs.Places.{joined_rows_found}
-use Rattle.plain_operators.proofs.Picks.{first_of-append}
+use Rattle.plain_operators.proofs.Limits.{first_of-append, vec_length}
 use Rattle.plain_operators.proofs.joined.rows_found.Goals as goal
-
-vec_length : (v : Vec (Vec ℕ Global) Global) → vec_len v ≡ length v.items
-vec_length v = v.ok.0
 
 pub loop-left-preserved : goal.loop-left-preserved
 loop-left-preserved c =
