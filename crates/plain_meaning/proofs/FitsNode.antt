@@ -1,5 +1,5 @@
 -- Each node of a graph fits the tables of the earlier nodes.
-use Rattle.std.proofs.Common.{◌≡◌, ℕ, suc, ◌<◌, ◌≤◌, List, [], ◌∷◌, Option, Some, None, length, map, take, drop, get_or, true, refl, sym, ◌∙◌, ap, subst, arith}
+use Rattle.std.proofs.Common.{◌≡◌, ℕ, suc, ◌<◌, ◌≤◌, List, [], ◌∷◌, Option, Some, None, length, map, take, drop, true, refl, sym, ◌∙◌, ap, subst, arith}
 use Rattle.std.specs.Prelude.{IsSomeAnd, slice_get}
 use Rattle.std.specs.List.{All, AllZip}
 use Rattle.std.proofs.lemmas.List.{get_or-map, length-map, get_or-take, length-take-le}
@@ -27,6 +27,7 @@ use Rattle.plain_operators.specs.Within.{HasColumns, IsAggregateOf, IsItemOf, Is
 use Rattle.plain_meaning.specs.Convert.{aggregate_of, item_of, operand_of, test_of}
 use Rattle.plain_meaning.specs.Fits.{FitsEarlier, FitsRelation, width_at, widths_of}
 use Rattle.plain_meaning.specs.Meaning.{is_relation}
+use Rattle.plain_operators.proofs.Lists.{map_map}
 use Rattle.plain_meaning.proofs.Others.{others_count}
 
 operand_fits : (columns : List Column) (kind : Kind) (operand : graph_operand.Operand) → graph.IsOperandOf columns kind operand → IsOperandOf (length columns) (operand_of operand)
@@ -78,35 +79,45 @@ aggregates_fit columns (aggregate ∷ rest) [] h = absurd h
 aggregates_fit columns (aggregate ∷ rest) (column ∷ made) h =
     All-cons (IsAggregateOf (length columns)) (aggregate_of aggregate) (map aggregate_of rest) (aggregate_fits columns aggregate column h.0) (aggregates_fit columns rest made h.1)
 
--- earlier tables with the columns of the first nodes
-module _ (nodes : List Node) (i : ℕ) (tables : List Content) (short : i ≤ length nodes) (columns : map (λ t. t.columns) tables ≡ map (λ n. n.columns) (take i nodes)) where
-  count : length (widths_of tables) ≡ i
-  count = length-map tables (λ t. length t.columns) ∙ sym (length-map tables (λ t. t.columns)) ∙ ap length columns ∙ length-map (take i nodes) (λ n. n.columns) ∙ length-take-le i nodes short
+-- the widths of the first nodes
+abbrev pub widths_before : List Node → ℕ → List ℕ
+widths_before nodes i = map (λ n. length n.columns) (take i nodes)
 
-  -- a source and the width of its table
-  record Source (s : ℕ) (P : List Column → ℕ → Type 0) : Type 0 where
-    found : Node
-    below : s < length (widths_of tables)
-    width : width_at (widths_of tables) s ≡ length found.columns
-    fits : P found.columns found.rows
+-- over the first nodes
+module _ (nodes : List Node) (i : ℕ) (short : i ≤ length nodes) where
+  pub length-widths_before : length (widths_before nodes i) ≡ i
+  length-widths_before = length-map (take i nodes) (λ n. length n.columns) ∙ length-take-le i nodes short
 
-  source : (s : ℕ) (P : List Column → ℕ → Type 0) → graph.IsSource nodes i s P → Source s P
+  pub width_before : (s : ℕ) (n : Node) → s < i → slice_get nodes s ≡ Some n → width_at (widths_before nodes i) s ≡ length n.columns
+  width_before s n earlier e =
+      let inside : s < length (take i nodes) = omega (arith, length-take-le i nodes short, earlier) in
+      get_or-map (λ n. length n.columns) (take i nodes) s n 0 inside ∙ ap (λ n. length n.columns) (get_or-take i nodes s n earlier ∙ get_or_from_slice_get nodes s n n e)
+
+  -- a source and the width of its rows
+  pub record Source (s : ℕ) (P : List Column → ℕ → Type 0) : Type 0 where
+    pub found : Node
+    pub earlier : s < i
+    pub is : slice_get nodes s ≡ Some found
+    pub below : s < length (widths_before nodes i)
+    pub width : width_at (widths_before nodes i) s ≡ length found.columns
+    pub fits : P found.columns found.rows
+
+  pub source : (s : ℕ) (P : List Column → ℕ → Type 0) → graph.IsSource nodes i s P → Source s P
   source s P h = by (slice_get nodes s) refl h.fits
     where
       by : (o : Option Node) → slice_get nodes s ≡ o → IsSomeAnd o (λ n. P n.columns n.rows) → Source s P
       by None e fits = absurd fits
-      by (Some n) e fits =
-          let below : s < length (widths_of tables) = omega (arith, count, h.earlier) in
-          let inside : s < length tables = omega (arith, length-map tables (λ t. length t.columns), below) in
-          let in_nodes : s < length (take i nodes) = omega (arith, length-take-le i nodes short, h.earlier) in
-          let none : Content = record { columns = []; rows = [] } in
-          let table = get_or tables s none in
-          let same : table.columns ≡ n.columns = sym (get_or-map (λ t. t.columns) tables s none [] inside) ∙ ap (λ l. get_or l s []) columns
-          ∙ get_or-map (λ n. n.columns) (take i nodes) s n [] in_nodes ∙ ap (λ n. n.columns) (get_or-take i nodes s n h.earlier ∙ get_or_from_slice_get nodes s n n e) in
-          record { found = n; below = below; width = get_or-map (λ t. length t.columns) tables s none 0 inside ∙ ap length same; fits = fits }
+      by (Some n) e fits = record {
+        found = n;
+        earlier = h.earlier;
+        is = e;
+        below = omega (arith, length-widths_before, h.earlier);
+        width = width_before s n h.earlier e;
+        fits = fits;
+      }
 
   fits_shape : (files : List (List (List ℕ))) (n : Node) (shape : Operator) → (is_relation shape ≡ true → FitsRelation files (length n.columns)) → graph.FitsSources nodes i n shape
-      → FitsEarlier files (widths_of tables) (length n.columns) shape
+      → FitsEarlier files (widths_before nodes i) (length n.columns) shape
   fits_shape files n (operators.Relation r) first h = first refl
   fits_shape files n (operators.Filter f) first h =
       let s = source f.source (λ columns rows. graph.IsFilter columns rows n f) h in
@@ -122,8 +133,8 @@ module _ (nodes : List Node) (i : ℕ) (tables : List Content) (short : i ≤ le
   fits_shape files n (operators.Concat c) first h =
       let P : List Column → ℕ → Type 0 = λ columns rows. n.columns ≡ columns in
       record {
-        sources = All-weaker (λ s. graph.IsSource nodes i s P) (λ s. s < length (widths_of tables)) (λ s g. (source s P g).below) c.sources h.columns;
-        same = All-weaker (λ s. graph.IsSource nodes i s P) (λ s. width_at (widths_of tables) s ≡ length n.columns) (λ s g. (source s P g).width ∙ sym (ap length (source s P g).fits)) c.sources h.columns;
+        sources = All-weaker (λ s. graph.IsSource nodes i s P) (λ s. s < length (widths_before nodes i)) (λ s g. (source s P g).below) c.sources h.columns;
+        same = All-weaker (λ s. graph.IsSource nodes i s P) (λ s. width_at (widths_before nodes i) s ≡ length n.columns) (λ s g. (source s P g).width ∙ sym (ap length (source s P g).fits)) c.sources h.columns;
       }
   fits_shape files n (operators.Join j) first h =
       let l = source j.left (λ left left_rows. graph.IsSource nodes i j.right (λ right right_rows. graph.IsJoin left right left_rows right_rows n j)) h in
@@ -158,5 +169,13 @@ module _ (nodes : List Node) (i : ℕ) (tables : List Content) (short : i ≤ le
       let s = source d.source (λ columns rows. graph.IsDistinctOf columns rows n d) h in
       record { source = s.below; same = s.width ∙ sym (ap length s.fits.columns) }
 
-  pub fits_node : (files : List (List (List ℕ))) (n : Node) → (is_relation n.shape ≡ true → FitsRelation files (length n.columns)) → graph.IsNode nodes i n → FitsEarlier files (widths_of tables) (length n.columns) n.shape
-  fits_node files n first h = fits_shape files n n.shape first h.sources
+  pub fits_before : (files : List (List (List ℕ))) (n : Node) → (is_relation n.shape ≡ true → FitsRelation files (length n.columns)) → graph.IsNode nodes i n
+      → FitsEarlier files (widths_before nodes i) (length n.columns) n.shape
+  fits_before files n first h = fits_shape files n n.shape first h.sources
+
+-- tables with the columns of the first nodes
+pub fits_node : (nodes : List Node) (i : ℕ) (tables : List Content) → i ≤ length nodes → map (λ t. t.columns) tables ≡ map (λ n. n.columns) (take i nodes)
+    → (files : List (List (List ℕ))) (n : Node) → (is_relation n.shape ≡ true → FitsRelation files (length n.columns)) → graph.IsNode nodes i n → FitsEarlier files (widths_of tables) (length n.columns) n.shape
+fits_node nodes i tables short columns files n first h =
+    let same : widths_of tables ≡ widths_before nodes i = sym (map_map length (λ (t : Content). t.columns) tables) ∙ ap (map length) columns ∙ map_map length (λ (n : Node). n.columns) (take i nodes) in
+    subst (λ widths. FitsEarlier files widths (length n.columns) n.shape) (sym same) (fits_before nodes i short files n first h)

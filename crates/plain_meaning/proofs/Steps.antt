@@ -2,18 +2,16 @@
 use Rattle.std.proofs.Common.{◌≡◌, ℕ, ◌+◌, ◌<◌, ◌≤◌, Bool, true, false, cond, ltb, List, [], ◌∷◌, ◌++◌, Option, Some, None, length, map, take, drop, get_or, refl, sym, ◌∙◌, ap, subst, arith}
 use Rattle.std.specs.Prelude.{slice_get}
 use Rattle.std.specs.List.{AllZip}
-use Rattle.std.specs.Option.{option_map}
 use Rattle.std.proofs.lemmas.Bool.Decides.{nat_tests}
 use Rattle.std.proofs.lemmas.List.{append-nil, append_assoc, drop-drop, drop_all, drop_more, get_or_append_left, get_or_push, length-append, length-map, length-take-le, length-take, map_push, map_more, take_all, take_at}
 use Rattle.std.proofs.lemmas.Option.{slice_get-get_or}
 use Rattle.query_graph.specs.declared.node.Node.{Node}
 use Rattle.query_graph.specs.declared.operator.Operator.{Operator}
-use Rattle.query_graph.specs.declared.operator.Operator.TheVariants.{Relation, Filter, Select, Concat, Join, Group, Distinct}
 use Rattle.tables.specs.Content.{Content}
 use Rattle.plain_operators.specs.Limits.{first_of}
 use Rattle.plain_meaning.specs.Fits.{AreRowsOf, FitsRelation, IsWorldOf, relations}
 use Rattle.plain_meaning.specs.Meaning.{files_after, is_relation, meanings, meanings_after, node_rows, rows_of}
-use Rattle.plain_meaning.specs.Plain.{Ends, IsPlain, bound_of, is_over, listed}
+use Rattle.plain_meaning.specs.Plain.{Ends, IsPlain, bound_of, is_over, limit_of, listed}
 
 -- the rows of the first nodes stand first
 pub front : (earlier files : List (List (List ℕ))) (nodes : List Node) → (rest : List (List (List ℕ))) × (meanings_after earlier files nodes ≡ earlier ++ rest)
@@ -27,31 +25,19 @@ front earlier files (n ∷ nodes) =
 over_taken : (k : ℕ) (rows : List (List ℕ)) → ltb k (length (take (k + 1) rows)) ≡ ltb k (length rows)
 over_taken k rows = let long = length-take (k + 1) rows in grind (arith, nat_tests)
 
-over_first : (bound : Option ℕ) (rows : List (List ℕ)) → is_over bound (first_of (option_map (λ k. k + 1) bound) rows) ≡ is_over bound rows
+over_first : (bound : Option ℕ) (rows : List (List ℕ)) → is_over bound (first_of (limit_of bound) rows) ≡ is_over bound rows
 over_first None rows = refl
 over_first (Some k) rows = over_taken k rows
 
 pub over_listed : (shape : Operator) (rows : List (List ℕ)) → is_over (bound_of shape) (listed shape rows) ≡ is_over (bound_of shape) rows
-over_listed (Relation r) rows = refl
-over_listed (Filter f) rows = refl
-over_listed (Select s) rows = refl
-over_listed (Concat c) rows = refl
-over_listed (Join j) rows = over_first j.at_most rows
-over_listed (Group g) rows = refl
-over_listed (Distinct d) rows = refl
+over_listed shape rows = over_first (bound_of shape) rows
 
-all_first : (bound : Option ℕ) (rows : List (List ℕ)) → is_over bound rows ≡ false → first_of (option_map (λ k. k + 1) bound) rows ≡ rows
+all_first : (bound : Option ℕ) (rows : List (List ℕ)) → is_over bound rows ≡ false → first_of (limit_of bound) rows ≡ rows
 all_first None rows within = refl
 all_first (Some k) rows within = let short : length rows ≤ k = grind (arith, nat_tests) in take_all (k + 1) rows (omega arith)
 
 pub all_listed : (shape : Operator) (rows : List (List ℕ)) → is_over (bound_of shape) rows ≡ false → listed shape rows ≡ rows
-all_listed (Relation r) rows within = refl
-all_listed (Filter f) rows within = refl
-all_listed (Select s) rows within = refl
-all_listed (Concat c) rows within = refl
-all_listed (Join j) rows within = all_first j.at_most rows within
-all_listed (Group g) rows within = refl
-all_listed (Distinct d) rows within = refl
+all_listed shape rows within = all_first (bound_of shape) rows within
 
 -- what a relation takes, and what is left for the others
 pub first_file : (n : Node) (nodes : List Node) (files : List (List (List ℕ))) → IsWorldOf (n ∷ nodes) files → is_relation n.shape ≡ true → FitsRelation files (length n.columns)
@@ -73,7 +59,7 @@ other_files n nodes files world = by (is_relation n.shape) files world
 abbrev pub next : Operator → ℕ → ℕ
 next shape relation = cond (is_relation shape) (relation + 1) relation
 
-next_files : (shape : Operator) (world : List (List (List ℕ))) (relation : ℕ) → drop (next shape relation) world ≡ files_after shape (drop relation world)
+pub next_files : (shape : Operator) (world : List (List (List ℕ))) (relation : ℕ) → drop (next shape relation) world ≡ files_after shape (drop relation world)
 next_files shape world relation = by (is_relation shape)
   where
     by : (b : Bool) → drop (cond b (relation + 1) relation) world ≡ cond b (drop 1 (drop relation world)) (drop relation world)

@@ -47,6 +47,9 @@ widths_of tables = map (λ t. length t.columns) tables
 abbrev pub width_at : List ℕ → ℕ → ℕ
 width_at widths node = slice_index widths node
 
+abbrev pub width_in : List table.Content → ℕ → ℕ
+width_in tables number = width_at (widths_of tables) number
+
 -- over earlier tables of these widths, an operator whose rows have this width
 pub record FitsFilter (widths : List ℕ) (width : ℕ) (f : Filter) : Type 0 where
   pub source : f.source < length widths
@@ -93,3 +96,7 @@ FitsEarlier files widths width (operators.Concat c) = FitsConcat widths width c
 FitsEarlier files widths width (operators.Join j) = FitsJoin widths width j
 FitsEarlier files widths width (operators.Group g) = FitsGroup widths width g
 FitsEarlier files widths width (operators.Distinct d) = FitsDistinct widths width d
+
+-- a node over the files that are left and earlier tables
+abbrev pub FitsAfter : List (List (List ℕ)) → List table.Content → Node → Type 0
+FitsAfter files earlier node = FitsEarlier files (widths_of earlier) (length node.columns) node.shape

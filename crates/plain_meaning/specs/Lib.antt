@@ -1,4 +1,5 @@
 pub mod Convert
 pub mod Fits
+pub mod Laws
 pub mod Meaning
 pub mod Plain

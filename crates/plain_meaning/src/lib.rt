@@ -4,10 +4,11 @@
 //! recursion over the nodes, which calls the operators on lists of rows. A world is seen as one list of rows for each
 //! relation, in the order of the text.
 //! Main promise: `plain` gives exactly the rows of each node, in order, up to the first node with more rows than its
-//! `at most`, which it names.
+//! `at most`, which it names; of no node it lists more than one row above its bound.
 #![tactic(auto)]
 
 mod convert;
+pub mod laws;
 mod made;
 mod node;
 mod rows;

@@ -1,13 +1,13 @@
-//! The table of each operator over earlier tables.
+//! The table of each operator over earlier tables, with no more than one row above its bound.
 #![tactic(auto)]
 
-ghost use Rattle.std.specs.Prelude.{◌≡◌, ◌+◌, [], length, map, slice_get, Some, IfOk};
-ghost use Rattle.std.specs.List.{All};
-ghost use Rattle.plain_operators.specs.Within.{HasColumns, IsAggregateOf};
-ghost use Rattle.plain_meaning.specs.Convert.{aggregate_of};
+ghost use Rattle.std.specs.Prelude.{◌≡◌, ◌+◌, [], length, map, IfOk};
+ghost use Rattle.plain_operators.specs.Limits.{first_of};
+ghost use Rattle.plain_operators.specs.Rows.{lent, owned};
+ghost use Rattle.plain_operators.specs.Within.{AreAggregatesOf, EachFits, HasColumns};
 ghost use Rattle.plain_meaning.specs.Fits.{FitsConcat, FitsDistinct, FitsFilter, FitsGroup, FitsJoin, FitsSelect, widths_of};
-ghost use Rattle.plain_meaning.specs.Meaning.{group_rows, node_rows};
-ghost use Rattle.plain_meaning.specs.Plain.{listed};
+ghost use Rattle.plain_meaning.specs.Meaning.{group_rows};
+ghost use Rattle.plain_meaning.specs.Plain.{limit_of, listed_table};
 
 use crate::convert::{aggregates_of, items_of, tests_of};
 use crate::rows::{add_source, source_rows, table_of_lent, table_of_made};
@@ -19,6 +19,13 @@ use std::alloc::{AllocError, Global};
 use tables::Table;
 use words::Column;
 
+// How many rows are listed under a bound: one above it, which tells that it is broken.
+fn limit_of(at_most: Option<u32>) -> Option<usize>
+    ensures { result ≡ limit_of at_most }
+{
+    at_most.map(|bound| bound as usize + 1)
+}
+
 pub(crate) fn filtered(
     alloc: Global,
     columns: Vec<Column>,
@@ -26,11 +33,13 @@ pub(crate) fn filtered(
     earlier: &[Table],
 ) -> Result<Table, AllocError>
     requires { FitsFilter (widths_of earlier.now) (length columns.items) filter.now }
-    ensures { IfOk result (λ table. table ≡ record { columns = columns.items; rows = node_rows (Operator.Filter filter.now) [] (map (λ t. t.rows) earlier.now) }) }
+    ensures { IfOk result (λ table. table
+        ≡ listed_table columns.items (Operator.Filter filter.now) [] earlier.now) }
 {
     let tests = tests_of(alloc, filter.tests.as_slice())?;
     let rows = source_rows(alloc, earlier, filter.source)?;
-    let kept = kept_rows(alloc, &tests, &rows)?;
+    let limit = limit_of(filter.at_most);
+    let kept = kept_rows(alloc, &tests, &rows, limit)?;
     table_of_lent(alloc, columns, &kept)
 }
 
@@ -41,7 +50,8 @@ pub(crate) fn selected(
     earlier: &[Table],
 ) -> Result<Table, AllocError>
     requires { FitsSelect (widths_of earlier.now) (length columns.items) select.now }
-    ensures { IfOk result (λ table. table ≡ record { columns = columns.items; rows = node_rows (Operator.Select select.now) [] (map (λ t. t.rows) earlier.now) }) }
+    ensures { IfOk result (λ table. table
+        ≡ listed_table columns.items (Operator.Select select.now) [] earlier.now) }
 {
     let items = items_of(alloc, select.items.as_slice())?;
     let rows = source_rows(alloc, earlier, select.source)?;
@@ -56,7 +66,8 @@ pub(crate) fn concatenated(
     earlier: &[Table],
 ) -> Result<Table, AllocError>
     requires { FitsConcat (widths_of earlier.now) (length columns.items) concat.now }
-    ensures { IfOk result (λ table. table ≡ record { columns = columns.items; rows = node_rows (Operator.Concat concat.now) [] (map (λ t. t.rows) earlier.now) }) }
+    ensures { IfOk result (λ table. table
+        ≡ listed_table columns.items (Operator.Concat concat.now) [] earlier.now) }
 {
     let mut rows = Vec::new(alloc);
     for source in concat.sources.as_slice() {
@@ -65,7 +76,6 @@ pub(crate) fn concatenated(
     table_of_lent(alloc, columns, &rows)
 }
 
-// Lists no more than one row above the bound.
 pub(crate) fn joined(
     alloc: Global,
     columns: Vec<Column>,
@@ -73,14 +83,12 @@ pub(crate) fn joined(
     earlier: &[Table],
 ) -> Result<Table, AllocError>
     requires { FitsJoin (widths_of earlier.now) (length columns.items) join.now }
-    ensures { IfOk result (λ table. table ≡ record {
-      columns = columns.items;
-      rows = listed (Operator.Join join.now) (node_rows (Operator.Join join.now) [] (map (λ t. t.rows) earlier.now));
-    }) }
+    ensures { IfOk result (λ table. table
+        ≡ listed_table columns.items (Operator.Join join.now) [] earlier.now) }
 {
     let lefts = source_rows(alloc, earlier, join.left)?;
     let rights = source_rows(alloc, earlier, join.right)?;
-    let limit = join.at_most.map(|bound| bound as usize + 1);
+    let limit = limit_of(join.at_most);
     let made = joined_rows(alloc, join.keys.as_slice(), &lefts, &rights, limit)?;
     table_of_made(alloc, columns, &made)
 }
@@ -92,29 +100,38 @@ pub(crate) fn grouped(
     earlier: &[Table],
 ) -> Result<Table, AllocError>
     requires { FitsGroup (widths_of earlier.now) (length columns.items) group.now }
-    ensures { IfOk result (λ table. table ≡ record { columns = columns.items; rows = node_rows (Operator.Group group.now) [] (map (λ t. t.rows) earlier.now) }) }
+    ensures { IfOk result (λ table. table
+        ≡ listed_table columns.items (Operator.Group group.now) [] earlier.now) }
 {
     let aggregates = aggregates_of(alloc, group.aggregates.as_slice())?;
     let rows = source_rows(alloc, earlier, group.source)?;
-    let made = group_rows(alloc, group.keys.as_slice(), &aggregates, &rows)?;
+    let made = group_rows(
+        alloc,
+        group.keys.as_slice(),
+        &aggregates,
+        &rows,
+        group.at_most,
+    )?;
     table_of_made(alloc, columns, &made)
 }
 
-// The rows of a group with keys or without.
+// The rows of a group with keys or without, no more than one above the bound.
 fn group_rows(
     alloc: Global,
     keys: &[u32],
     aggregates: &[Aggregate],
     rows: &[&[u64]],
+    at_most: Option<u32>,
 ) -> Result<Vec<Vec<u64>>, AllocError>
-    requires of_keys { All (λ row. HasColumns keys.now (length row.now)) rows.now }
-    requires of_aggregates { All (λ row. All (IsAggregateOf (length row.now)) aggregates.now) rows.now }
-    ensures { IfOk result (λ made. map (λ row. row.items) made.items ≡ group_rows keys.now aggregates.now (map (λ row. row.now) rows.now)) }
+    requires of_keys { EachFits (HasColumns keys.now) rows.now }
+    requires of_aggregates { EachFits (AreAggregatesOf aggregates.now) rows.now }
+    ensures { IfOk result (λ made. owned made.items
+        ≡ first_of (limit_of at_most) (group_rows keys.now aggregates.now (lent rows.now))) }
 {
     if keys.is_empty() {
         whole_table_rows(alloc, aggregates, rows)
     } else {
-        grouped_rows(alloc, keys, aggregates, rows)
+        grouped_rows(alloc, keys, aggregates, rows, limit_of(at_most))
     }
 }
 
@@ -125,9 +142,10 @@ pub(crate) fn distinct(
     earlier: &[Table],
 ) -> Result<Table, AllocError>
     requires { FitsDistinct (widths_of earlier.now) (length columns.items) distinct.now }
-    ensures { IfOk result (λ table. table ≡ record { columns = columns.items; rows = node_rows (Operator.Distinct distinct.now) [] (map (λ t. t.rows) earlier.now) }) }
+    ensures { IfOk result (λ table. table
+        ≡ listed_table columns.items (Operator.Distinct distinct.now) [] earlier.now) }
 {
     let rows = source_rows(alloc, earlier, distinct.source)?;
-    let kept = distinct_rows(alloc, &rows)?;
+    let kept = distinct_rows(alloc, &rows, limit_of(distinct.at_most))?;
     table_of_lent(alloc, columns, &kept)
 }

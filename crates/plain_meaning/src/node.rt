@@ -1,11 +1,9 @@
 //! The table of a node.
 #![tactic(auto)]
 
-ghost use Rattle.std.specs.Prelude.{◌≡◌, ◌<◌, drop, length, map, slice_index_or, [], IfOk};
-ghost use Rattle.std.specs.List.{All};
-ghost use Rattle.plain_meaning.specs.Fits.{FitsEarlier, FitsRelation, widths_of};
-ghost use Rattle.plain_meaning.specs.Meaning.{node_rows};
-ghost use Rattle.plain_meaning.specs.Plain.{bound_of, is_over, listed};
+ghost use Rattle.std.specs.Prelude.{◌≡◌, ◌<◌, drop, length, slice_index_or, [], IfOk};
+ghost use Rattle.plain_meaning.specs.Fits.{FitsAfter, FitsRelation};
+ghost use Rattle.plain_meaning.specs.Plain.{bound_of, is_over, listed_node, table_of};
 
 use crate::made::{concatenated, distinct, filtered, grouped, joined, selected};
 use crate::rows::{add_rows, copy_of, table_of_lent};
@@ -23,11 +21,9 @@ pub(crate) fn node_table(
     relation: usize,
     earlier: &[Table],
 ) -> Result<Table, AllocError>
-    requires { FitsEarlier (drop relation world.now) (widths_of earlier.now) (length node.now.columns) node.now.shape }
-    ensures { IfOk result (λ table. table ≡ record {
-      columns = node.now.columns;
-      rows = listed node.now.shape (node_rows node.now.shape (slice_index_or (drop relation world.now) 0 []) (map (λ t. t.rows) earlier.now));
-    }) }
+    requires { FitsAfter (drop relation world.now) earlier.now node.now }
+    ensures { IfOk result (λ table. table
+        ≡ listed_node (drop relation world.now) earlier.now node.now) }
 {
     let columns = copy_of(alloc, node.columns.as_slice())?;
     match &node.shape {
@@ -49,7 +45,8 @@ fn copied(
     relation: usize,
 ) -> Result<Table, AllocError>
     requires { FitsRelation (drop relation world.now) (length columns.items) }
-    ensures { IfOk result (λ table. table ≡ record { columns = columns.items; rows = slice_index_or (drop relation world.now) 0 [] }) }
+    ensures { IfOk result (λ table. table
+        ≡ table_of columns.items (slice_index_or (drop relation world.now) 0 [])) }
 {
     let mut rows = Vec::new(alloc);
     add_rows(world.table(relation), &mut rows)?;

@@ -1,12 +1,13 @@
 //! The rows of tables, and tables of rows.
 #![tactic(auto)]
 
-ghost use Rattle.std.specs.Prelude.{◌≡◌, ◌<◌, ◌++◌, length, map, IfOk, OnOk};
+ghost use Rattle.std.specs.Prelude.{◌≡◌, ◌<◌, ◌++◌, length, IfOk, OnOk};
 ghost use Rattle.std.specs.List.{All};
 ghost use Rattle.tables.specs.Content.{IsRectangular};
+ghost use Rattle.plain_operators.specs.Rows.{lent, owned};
 ghost use Rattle.plain_operators.specs.Sizes.{AllWide};
-ghost use Rattle.plain_meaning.specs.Fits.{widths_of, width_at};
-ghost use Rattle.plain_meaning.specs.Meaning.{rows_of};
+ghost use Rattle.plain_meaning.specs.Fits.{widths_of, width_in};
+ghost use Rattle.plain_meaning.specs.Plain.{rows_in, table_of};
 
 use std::alloc::{AllocError, Global};
 use tables::Table;
@@ -19,8 +20,9 @@ pub(crate) fn add_source<'a>(
     rows: &mut Vec<&'a [u64]>,
 ) -> Result<(), AllocError>
     requires { number < length (widths_of earlier.now) }
-    ensures rows { OnOk result (map (λ row. row.now) rows.new.items ≡ map (λ row. row.now) rows.old.items ++ rows_of (map (λ t. t.rows) earlier.now) number) }
-    ensures wide { AllWide (width_at (widths_of earlier.now) number) (rows_of (map (λ t. t.rows) earlier.now) number) }
+    ensures rows { OnOk result (lent rows.new.items
+        ≡ lent rows.old.items ++ rows_in earlier.now number) }
+    ensures wide { AllWide (width_in earlier.now number) (rows_in earlier.now number) }
 {
     add_rows(&earlier[number as usize], rows)
 }
@@ -32,8 +34,8 @@ pub(crate) fn source_rows(
     number: u32,
 ) -> Result<Vec<&[u64]>, AllocError>
     requires { number < length (widths_of earlier.now) }
-    ensures rows { IfOk result (λ rows. map (λ row. row.now) rows.items ≡ rows_of (map (λ t. t.rows) earlier.now) number) }
-    ensures wide { AllWide (width_at (widths_of earlier.now) number) (rows_of (map (λ t. t.rows) earlier.now) number) }
+    ensures rows { IfOk result (λ rows. lent rows.items ≡ rows_in earlier.now number) }
+    ensures wide { AllWide (width_in earlier.now number) (rows_in earlier.now number) }
 {
     let mut rows = Vec::new(alloc);
     add_source(earlier, number, &mut rows)?;
@@ -42,7 +44,7 @@ pub(crate) fn source_rows(
 
 // Adds the rows of a table, lent.
 pub(crate) fn add_rows<'a>(table: &'a Table, rows: &mut Vec<&'a [u64]>) -> Result<(), AllocError>
-    ensures rows { OnOk result (map (λ row. row.now) rows.new.items ≡ map (λ row. row.now) rows.old.items ++ table.now.rows) }
+    ensures rows { OnOk result (lent rows.new.items ≡ lent rows.old.items ++ table.now.rows) }
     ensures rectangular { IsRectangular table.now }
 {
     for number in 0..table.rows() {
@@ -58,7 +60,7 @@ pub(crate) fn table_of_lent(
     rows: &[&[u64]],
 ) -> Result<Table, AllocError>
     requires { All (λ row. length row.now ≡ length columns.items) rows.now }
-    ensures { IfOk result (λ table. table ≡ record { columns = columns.items; rows = map (λ row. row.now) rows.now }) }
+    ensures { IfOk result (λ table. table ≡ table_of columns.items (lent rows.now)) }
 {
     let mut table = Table::new(alloc, columns);
     for row in rows {
@@ -74,7 +76,7 @@ pub(crate) fn table_of_made(
     rows: &[Vec<u64>],
 ) -> Result<Table, AllocError>
     requires { All (λ row. length row.items ≡ length columns.items) rows.now }
-    ensures { IfOk result (λ table. table ≡ record { columns = columns.items; rows = map (λ row. row.items) rows.now }) }
+    ensures { IfOk result (λ table. table ≡ table_of columns.items (owned rows.now)) }
 {
     let mut table = Table::new(alloc, columns);
     for row in rows {

@@ -1,7 +1,7 @@
 //! The tables of all nodes.
 #![tactic(auto)]
 
-ghost use Rattle.std.specs.Prelude.{◌≡◌, ◌<◌, length, IfOk};
+ghost use Rattle.std.specs.Prelude.{◌<◌, IfOk};
 ghost use Rattle.plain_meaning.specs.Fits.{IsWorldOf};
 ghost use Rattle.plain_meaning.specs.Plain.{IsPlain};
 
@@ -21,7 +21,7 @@ pub struct PlainRows {
 }
 
 /// The plain rows of each node, up to the first with more rows than its `at most`; of that node no more than one row
-/// above the bound is listed where it is a join, and none is given.
+/// above the bound is listed, and none is given.
 pub fn plain(alloc: Global, graph: &Graph, world: &World) -> Result<PlainRows, AllocError>
     requires { IsWorldOf graph.now.nodes world.now }
     ensures { IfOk result (λ plain. IsPlain graph.now.nodes world.now plain.tables plain.over) }
@@ -136,6 +136,36 @@ output d to 1
         let plain = run(rt.alloc(), text, &[&rows])?;
         assert_eq!(rt; plain.over, Some(1));
         assert_eq!(rt; plain.tables.len(), 1);
+        Ok(())
+    }
+
+    #[test]
+    fn ends_at_the_first_node_above_its_bound(rt: HostRuntime) -> Result<(), Fail> {
+        let rows: [&[u64]; 4] = [&[7, 1], &[8, 2], &[7, 3], &[9, 4]];
+        let cases: [(&[u8], Option<u32>); 8] = [
+            (b"n = filter r where k < 9 at most 3\n", None),
+            (b"n = filter r where k < 9 at most 2\n", Some(1)),
+            (b"n = group r by k (c = count) at most 3\n", None),
+            (b"n = group r by k (c = count) at most 2\n", Some(1)),
+            (b"n = distinct r at most 4\n", None),
+            (b"n = distinct r at most 3\n", Some(1)),
+            (
+                b"s = select r (k, w = k)\nn = join r s on k at most 6\n",
+                None,
+            ),
+            (
+                b"s = select r (k, w = k)\nn = join r s on k at most 5\n",
+                Some(2),
+            ),
+        ];
+        for (statement, over) in cases {
+            let mut text = Vec::new(rt.alloc());
+            text.extend_from_slice(b"relation r of 1 rows 4 (k num, v num)\n")?;
+            text.extend_from_slice(statement)?;
+            text.extend_from_slice(b"output n to 1\n")?;
+            let plain = run(rt.alloc(), &text, &[&rows])?;
+            assert_eq!(rt; plain.over, over);
+        }
         Ok(())
     }
 

@@ -4,6 +4,7 @@
 ghost use Rattle.std.specs.Prelude.{◌≡◌, ◌<◌, ◌↔◌, IsTrue, map, length, slice_get, Some, IfOk, IfErr};
 ghost use Rattle.plain_meaning.specs.Fits.{AreFiles, IsFileOf, IsWorldOf};
 ghost use Rattle.plain_meaning.specs.Meaning.{is_relation};
+ghost use Rattle.plain_meaning.specs.Plain.{rows_of_tables};
 
 use query_graph::{Graph, Node, Operator};
 use std::marker::Model;
@@ -31,9 +32,11 @@ impl World {
     /// Gives the tables back where there aren't as many as relations, or one has other columns than its relation or
     /// more rows.
     pub fn new(graph: &Graph, tables: Vec<Table>) -> Result<World, Vec<Table>>
-        ensures ok { IfOk result (λ world. (world ≡ map (λ t. t.rows) tables.items) × AreFiles graph.now.nodes tables.items) }
+        ensures ok { IfOk result (λ world.
+            (world ≡ rows_of_tables tables.items) × AreFiles graph.now.nodes tables.items) }
         ensures fits { IfOk result (λ world. IsWorldOf graph.now.nodes world) }
-        ensures err { IfErr result (λ back. (back ≡ tables) × ¬ (AreFiles graph.now.nodes tables.items)) }
+        ensures err { IfErr result (λ back.
+            (back ≡ tables) × ¬ (AreFiles graph.now.nodes tables.items)) }
     {
         if are_files(graph.nodes(), &tables) {
             Ok(World { tables })

@@ -2,9 +2,11 @@ use Rattle.std.proofs.Common.{◌≡◌, ℕ, List, Bor, map, length, subst, sym
 use Rattle.std.specs.List.{All, list_all}
 use Rattle.std.proofs.lemmas.List.Elements.{All-filter, All-same}
 use Rattle.plain_operators.specs.Items.{holds_of}
+use Rattle.plain_operators.specs.Limits.{first_of}
 use Rattle.plain_operators.specs.Operators.{kept_rows}
 use Rattle.plain_operators.specs.Sizes.{AllWide}
 use Rattle.plain_operators.specs.Within.{IsTestOf}
+use Rattle.plain_operators.proofs.Limits.{All-first_of}
 use Rattle.plain_meaning.specs.Convert.{test_of}
 use Rattle.plain_meaning.specs.Fits.{width_at, widths_of}
 use Rattle.plain_meaning.specs.Meaning.{rows_of}
@@ -29,4 +31,6 @@ table_of_lent-requires c =
     let w = width_at (widths_of c.args.earlier.now) c.args.filter.now.source in
     let P : List ℕ → Type 0 = λ row. length row ≡ w in
     let wide : AllWide w rows = All-same P rows (rows_of (map (λ t. t.rows) c.args.earlier.now) c.args.filter.now.source) (ap (map now) c.deref-2.ensures.value ∙ c.in_ok-rows.ensures.rows) c.source_rows.ensures.wide in
-    wide_rows now c.deref-3.result.now (kept_rows tests rows) w (length c.args.columns.items) (ap (map now) c.deref-3.ensures.value ∙ c.in_ok-kept.ensures) (All-filter (λ row. list_all (λ test. test row) tests) P rows wide) c.requires.same
+    let limit = c.limit_of-limit.result in
+    wide_rows now c.deref-3.result.now (first_of limit (kept_rows tests rows)) w (length c.args.columns.items) (ap (map now) c.deref-3.ensures.value ∙ c.in_ok-kept.ensures)
+    (All-first_of limit P (kept_rows tests rows) (All-filter (λ row. list_all (λ test. test row) tests) P rows wide)) c.requires.same

@@ -2,10 +2,13 @@ use Rattle.std.proofs.Common.{◌≡◌, ◌+◌, ℕ, List, Bor, Vec, Global, m
 use Rattle.std.specs.List.{All}
 use Rattle.std.proofs.lemmas.List.{length-map}
 use Rattle.std.proofs.lemmas.List.Elements.{All-same}
+use Rattle.plain_operators.specs.Limits.{first_of}
 use Rattle.plain_operators.specs.Within.{HasColumns, IsAggregateOf}
+use Rattle.plain_operators.proofs.Limits.{All-first_of}
 use Rattle.plain_meaning.specs.Convert.{aggregate_of}
 use Rattle.plain_meaning.specs.Fits.{width_at, widths_of}
 use Rattle.plain_meaning.specs.Meaning.{group_rows, rows_of}
+use Rattle.plain_meaning.specs.Plain.{limit_of}
 use Rattle.plain_meaning.proofs.Widths.{fits_rows, group_rows-AllWide, wide_rows}
 use Rattle.plain_meaning.proofs.made.grouped.Goals as goal
 
@@ -36,4 +39,8 @@ table_of_made-requires c =
     let e : aggregates ≡ map aggregate_of c.args.group.now.aggregates = c.deref.ensures.value ∙ c.in_ok-aggregates.ensures ∙ ap (map aggregate_of) c.as_slice.ensures in
     let many : length aggregates ≡ length c.args.group.now.aggregates = ap length e ∙ length-map c.args.group.now.aggregates aggregate_of in
     let long : length keys + length aggregates ≡ length c.args.columns.items = (λ i. length (c.as_slice-2.ensures i) + many i) ∙ c.requires.same in
-    wide_rows listed c.deref-3.result.now (group_rows keys aggregates rows) (length keys + length aggregates) (length c.args.columns.items) (ap (map listed) c.deref-3.ensures.value ∙ c.in_ok-made.ensures) (group_rows-AllWide keys aggregates rows) long
+    let limit = limit_of c.args.group.now.at_most in
+    let all = group_rows keys aggregates rows in
+    let w = length keys + length aggregates in
+    wide_rows listed c.deref-3.result.now (first_of limit all) w (length c.args.columns.items) (ap (map listed) c.deref-3.ensures.value ∙ c.in_ok-made.ensures)
+    (All-first_of limit (λ row. length row ≡ w) all (group_rows-AllWide keys aggregates rows)) long

@@ -4,7 +4,7 @@ use Rattle.plain_operators.specs.Limits.{first_of}
 use Rattle.plain_operators.specs.Operators.{joined_rows, left_keys, right_keys}
 use Rattle.plain_operators.specs.Sizes.{AllWide, joined_width}
 use Rattle.plain_operators.specs.Within.{HasColumns}
-use Rattle.plain_operators.proofs.Picks.{All-first_of}
+use Rattle.plain_operators.proofs.Limits.{All-first_of}
 use Rattle.plain_operators.proofs.Sizes.{joined_rows-AllWide}
 use Rattle.plain_meaning.specs.Fits.{width_at, widths_of}
 use Rattle.plain_meaning.specs.Meaning.{rows_of}
@@ -41,6 +41,6 @@ table_of_made-requires c =
     let wide_right : AllWide b rights = All-same (λ row. length row ≡ b) rights (rows_of earlier c.args.join.now.right) (ap (map now) c.deref-2.ensures.value ∙ c.in_ok-rights.ensures.rows) c.source_rows-2.ensures.wide in
     let w = joined_width keys a b in
     let all = joined_rows keys lefts rights in
-    let limit = c.map-limit.result in
+    let limit = c.limit_of-limit.result in
     let wide : AllWide w (first_of limit all) = All-first_of limit (λ row. length row ≡ w) all (joined_rows-AllWide keys a b lefts rights wide_left wide_right) in
     wide_rows listed c.deref-3.result.now (first_of limit all) w (length c.args.columns.items) (ap (map listed) c.deref-3.ensures.value ∙ c.in_ok-made.ensures) wide (ap (λ k. joined_width k a b) c.as_slice.ensures ∙ c.requires.same)

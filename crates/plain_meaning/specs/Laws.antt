@@ -1,0 +1,76 @@
+-- What holds of the rows of each node of a graph, each law as one statement.
+use Rattle.std.specs.Prelude.{◌≡◌, ℕ, ◌+◌, ◌*◌, ◌<◌, ◌≤◌, false, List, Option, Some, None, length, map, take, slice_get}
+use Rattle.std.specs.List.{All}
+use Rattle.std.specs.Option.{option_map}
+use Rattle.query_graph.specs.Content as graph_content
+use Rattle.query_graph.specs.IsGraph.{IsGraph}
+use Rattle.query_graph.specs.declared.node.Node.{Node}
+use Rattle.query_graph.specs.declared.operator.Operator.{Operator}
+use Rattle.query_graph.specs.declared.operator.Operator.TheVariants.{Relation, Filter, Select, Concat, Join, Group, Distinct}
+use Rattle.plain_operators.specs.Sizes.{AllWide, HasWordConstants, IsOfWords}
+use Rattle.plain_meaning.specs.Convert.{item_of}
+use Rattle.plain_meaning.specs.Fits.{IsWorldOf, relations}
+use Rattle.plain_meaning.specs.Meaning.{meanings, node_rows, rows_of}
+use Rattle.plain_meaning.specs.Plain.{bound_of, is_over}
+
+-- the most rows of a group whose rows come in three parts, each under a bound
+abbrev pub parts_bound_of : Operator → Option ℕ
+parts_bound_of (Relation r) = None
+parts_bound_of (Filter f) = None
+parts_bound_of (Select s) = None
+parts_bound_of (Concat c) = None
+parts_bound_of (Join j) = None
+parts_bound_of (Group g) = option_map (λ k. 3 * k) g.parts_at_most
+parts_bound_of (Distinct d) = None
+
+-- rows of a node that break none of its bounds
+pub record KeepBounds (shape : Operator) (rows : List (List ℕ)) : Type 0 where
+  pub bound : is_over (bound_of shape) rows ≡ false
+  pub parts : is_over (parts_bound_of shape) rows ≡ false
+
+-- none of the first nodes, so many, breaks a bound
+abbrev pub FirstKeepBounds : List Node → List (List (List ℕ)) → ℕ → Type 0
+FirstKeepBounds nodes world count = (i : ℕ) (node : Node) → i < count → slice_get nodes i ≡ Some node → KeepBounds node.shape (rows_of (meanings nodes world) i)
+
+-- each constant of the items of a select is a word
+abbrev pub SelectsWords : Operator → Type 0
+SelectsWords (Relation r) = Unit {0}
+SelectsWords (Filter f) = Unit {0}
+SelectsWords (Select s) = All HasWordConstants (map item_of s.items)
+SelectsWords (Concat c) = Unit {0}
+SelectsWords (Join j) = Unit {0}
+SelectsWords (Group g) = Unit {0}
+SelectsWords (Distinct d) = Unit {0}
+
+abbrev pub AllSelectWords : List Node → Type 0
+AllSelectWords nodes = All (λ node. SelectsWords node.shape) nodes
+
+-- how many relations stand before this node: the number of the file of a relation
+abbrev pub relations_before : List Node → ℕ → ℕ
+relations_before nodes i = length (relations (take i nodes))
+
+-- the node with this number in a graph, over a world of it
+pub record IsNodeOver (graph : graph_content.Content) (world : List (List (List ℕ))) (i : ℕ) (node : Node) : Type 0 where
+  pub is_graph : IsGraph graph
+  pub is_world : IsWorldOf graph.nodes world
+  pub is_node : slice_get graph.nodes i ≡ Some node
+
+-- the rows of a node are those of its operator, from the rows of the file of a relation and of all earlier nodes
+abbrev pub NodesMeanOperators : Type 0
+NodesMeanOperators = (graph : graph_content.Content) (world : List (List (List ℕ))) (i : ℕ) (node : Node) → IsNodeOver graph world i node
+    → rows_of (meanings graph.nodes world) i ≡ node_rows node.shape (rows_of world (relations_before graph.nodes i)) (take i (meanings graph.nodes world))
+
+-- the rows of a node are as wide as its columns
+abbrev pub NodesAreWide : Type 0
+NodesAreWide = (graph : graph_content.Content) (world : List (List (List ℕ))) (i : ℕ) (node : Node) → IsNodeOver graph world i node
+    → AllWide (length node.columns) (rows_of (meanings graph.nodes world) i)
+
+-- they are at most its declared rows, where neither it nor an earlier node breaks a bound
+abbrev pub NodesKeepSizes : Type 0
+NodesKeepSizes = (graph : graph_content.Content) (world : List (List (List ℕ))) (i : ℕ) (node : Node) → IsNodeOver graph world i node
+    → FirstKeepBounds graph.nodes world (i + 1) → length (rows_of (meanings graph.nodes world) i) ≤ node.rows
+
+-- and their words are below 2^64, where those of the world and the constants are and no earlier node breaks a bound
+abbrev pub NodesAreOfWords : Type 0
+NodesAreOfWords = (graph : graph_content.Content) (world : List (List (List ℕ))) (i : ℕ) (node : Node) → IsNodeOver graph world i node
+    → FirstKeepBounds graph.nodes world i → AllSelectWords graph.nodes → All (All IsOfWords) world → All IsOfWords (rows_of (meanings graph.nodes world) i)

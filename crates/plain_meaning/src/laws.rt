@@ -1,0 +1,25 @@
+//! Laws of the rows of nodes. Each function does nothing, and its contract is the law.
+#![tactic(auto)]
+
+ghost use Rattle.plain_meaning.specs.Laws.{NodesAreOfWords, NodesAreWide, NodesKeepSizes, NodesMeanOperators};
+
+/// The rows of each node are those of its operator on the rows of all earlier nodes.
+pub fn nodes_mean_operators()
+    ensures { NodesMeanOperators }
+{}
+
+/// The rows of each node are as wide as its columns.
+pub fn nodes_are_wide()
+    ensures { NodesAreWide }
+{}
+
+/// A node has at most its declared rows, where no node up to it breaks a bound.
+pub fn nodes_keep_sizes()
+    ensures { NodesKeepSizes }
+{}
+
+/// The words of each node's rows are below 2^64 where those of the files and the constants are, and no earlier node
+/// breaks a bound.
+pub fn nodes_are_of_words()
+    ensures { NodesAreOfWords }
+{}
