@@ -1,11 +1,12 @@
 -- What the loop over copied columns keeps.
 use Rattle.std.proofs.Common.{◌≡◌, ℕ, suc, ◌+◌, ◌*◌, ◌<◌, ◌≤◌, ⊎_elim, List, [], ◌∷◌, ◌++◌, length, refl, sym, ap, ◌∙◌, subst, arith, length-append}
-use Rattle.std.specs.Prelude.{Some, slice_get}
+use Rattle.std.specs.Prelude.{Some, slice_get, slice_index_or}
+use Rattle.std.proofs.lemmas.Option.{slice_get-get_or}
 use Rattle.std.proofs.Math.Nat.{add-mul, mul-le-mul_left, mul-le-mul_right, mul_assoc, one-mul}
 use Rattle.wires.specs.Environment.{Environment, words}
-use Rattle.wires.specs.Growth.{Carries, Grows}
+use Rattle.wires.specs.Growth.{AreMade, Carries, Grows}
 use Rattle.wires.specs.declared.wire.Wire.{Wire}
-use Rattle.circuits.specs.Copies.{Copying}
+use Rattle.circuits.specs.Copies.{AreCopies, Copying}
 use Rattle.circuits.specs.Runs.{runs_copied, runs_folded}
 use Rattle.circuits.proofs.Levels.{grows_still, grows_then}
 use Rattle.circuits.proofs.Restated.{carried_on}
@@ -70,3 +71,10 @@ copies_cost before mid after c l l' n n' levels flags copies same_length same_la
     let all : c * (l * n) ≤ c * (levels * n) = mul-le-mul_left c most in
     let split : (c + 1) * levels * n ≡ c * (levels * n) + levels * n = mul_assoc (c + 1) levels n ∙ add-mul c 1 (levels * n) ∙ ap (λ k. c * (levels * n) + k) (one-mul (levels * n)) in
     omega (arith, flags, copies, told, all, split)
+
+-- the copies were made
+pub copies_made : (possible : Environment → Type 0) (shape : List ℕ) (joined : Wire) (columns copies : List Wire) (n : ℕ)
+    → AreCopies possible shape joined columns copies n → length copies ≡ length columns → AreMade shape copies
+copies_made possible shape joined columns copies n h long k wire inside =
+    (h.each k (slice_index_or columns k wire) (slice_index_or copies k wire)
+    (slice_get-get_or columns k wire (omega arith)) (slice_get-get_or copies k wire inside)).made

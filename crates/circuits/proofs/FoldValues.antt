@@ -10,6 +10,9 @@ use Rattle.lanes.specs.Word.{AreWords, word_not}
 use Rattle.lanes.proofs.Carries.{bit_cases}
 use Rattle.lanes.proofs.WordChoice.{spread_off, spread_on}
 use Rattle.lanes.proofs.WordLemmas.{not_not}
+use Rattle.circuits.specs.declared.folds.Fold.{Fold}
+use Rattle.circuits.specs.declared.folds.Fold.TheVariants.{Sum, Least, Greatest}
+use Rattle.circuits.specs.Folds.{combined_word, neutral_word}
 use Rattle.circuits.specs.Values.{cleared_lanes, raised_lanes}
 use Rattle.circuits.proofs.LaneValues.{head_word, tail_words}
 
@@ -44,3 +47,19 @@ raised_is (flag ∷ flags) [] h = refl
 raised_is (flag ∷ flags) (x ∷ xs) h =
     ap (λ w. w ∷ raised_lanes flags xs) (raised_word flag x (head_word x xs h))
     ∙ ap (λ rest. chosen_word flag x (2 ^ 64 - 1) ∷ rest) (raised_is flags xs (tail_words x xs h))
+
+-- words may be folded in any order, and the neutral word changes no fold
+pub combined_assoc : (fold : Fold) (x y z : ℕ) → combined_word fold (combined_word fold x y) z ≡ combined_word fold x (combined_word fold y z)
+combined_assoc Sum x y z = omega arith
+combined_assoc Least x y z = omega arith
+combined_assoc Greatest x y z = omega arith
+
+pub combined_comm : (fold : Fold) (x y : ℕ) → combined_word fold x y ≡ combined_word fold y x
+combined_comm Sum x y = omega arith
+combined_comm Least x y = omega arith
+combined_comm Greatest x y = omega arith
+
+pub combined_neutral : (fold : Fold) (x : ℕ) → x < 2 ^ 64 → combined_word fold (neutral_word fold) x ≡ x
+combined_neutral Sum x below = omega arith
+combined_neutral Least x below = omega arith
+combined_neutral Greatest x below = omega arith

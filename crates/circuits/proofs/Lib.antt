@@ -5,3 +5,6 @@ pub mod FoldValues
 pub mod RunLaws
 pub mod RunSteps
 pub mod CopySteps
+pub mod BlockLaws
+pub mod BlockSteps
+pub mod RunBlockLaws

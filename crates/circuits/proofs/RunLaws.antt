@@ -13,10 +13,10 @@ use Rattle.lanes.specs.Sums.{chosen_word}
 use Rattle.lanes.proofs.Carries.{bit_cases}
 use Rattle.lanes.proofs.LaneLemmas.{get_or-lanewise, get_or-picked, length-lanewise, length-picked}
 use Rattle.circuits.specs.declared.folds.Fold.{Fold}
-use Rattle.circuits.specs.declared.folds.Fold.TheVariants.{Sum, Least, Greatest}
 use Rattle.circuits.specs.RunLoops.{further_folds, further_lanes, moved_lanes, near_folds, reaching_lanes, taken_word}
 use Rattle.circuits.specs.Runs.{by_lane, fold_back, run_before, runs_copied, runs_folded}
 use Rattle.circuits.specs.Values.{chosen_lanes}
+use Rattle.circuits.proofs.FoldValues.{combined_assoc}
 
 -- a word for each lane: its length, its words, and which list it is
 pub length-by_lane : (f : ℕ → ℕ) (xs : List ℕ) → length (by_lane f xs) ≡ length xs
@@ -29,7 +29,7 @@ pub is_by_lane : (f : ℕ → ℕ) (ys xs : List ℕ) → length ys ≡ length x
 is_by_lane f ys xs long h = fill_by_all f ys (length xs) 0 long h
 
 -- a lane begins a run, or belongs to the run of the lane before
-before_cases : (joined : List ℕ) (k : ℕ)
+pub before_cases : (joined : List ℕ) (k : ℕ)
     → ((run_before joined (suc k) ≡ 0) × (get_or joined (suc k) 0 % 2 ≡ 0)) ⊎ ((run_before joined (suc k) ≡ suc (run_before joined k)) × (get_or joined (suc k) 0 % 2 ≡ 1))
 unfolding run_before
 before_cases joined k = ⊎_elim
@@ -37,11 +37,11 @@ before_cases joined k = ⊎_elim
     (λ (on : get_or joined (suc k) 0 % 2 ≡ 1). let yes : nat_eq (get_or joined (suc k) 0 % 2) 1 ≡ true = grind (arith, nat_tests) in inr (ap (λ b. cond b (suc (run_before joined k)) 0) yes, on))
     (bit_cases (get_or joined (suc k) 0 % 2) (omega arith))
 
-none_before : (joined : List ℕ) → run_before joined 0 ≡ 0
+pub none_before : (joined : List ℕ) → run_before joined 0 ≡ 0
 unfolding run_before
 none_before joined = refl
 
-few_before : (joined : List ℕ) (k : ℕ) → run_before joined k ≤ k
+pub few_before : (joined : List ℕ) (k : ℕ) → run_before joined k ≤ k
 few_before joined zero = omega (arith, none_before joined)
 few_before joined (suc k) =
     let h = few_before joined k in
@@ -66,7 +66,7 @@ earlier joined (suc k) (suc m) h = ⊎_elim
     (before_cases joined k)
 
 -- a fold of neighbours is the fold of both
-fold_joins : (op : ℕ → ℕ → ℕ) → ((x y z : ℕ) → op (op x y) z ≡ op x (op y z)) → (xs : List ℕ) (k d a : ℕ)
+pub fold_joins : (op : ℕ → ℕ → ℕ) → ((x y z : ℕ) → op (op x y) z ≡ op x (op y z)) → (xs : List ℕ) (k d a : ℕ)
     → op (fold_back op xs (k - suc d) a) (fold_back op xs k d) ≡ fold_back op xs k (suc (a + d))
 unfolding fold_back
 fold_joins op assoc xs k d zero =
@@ -289,9 +289,7 @@ flags_begin n joined long =
 -- what a level does is associative
 pub taken_assoc : (fold : Option Fold) (x y z : ℕ) → taken_word fold (taken_word fold x y) z ≡ taken_word fold x (taken_word fold y z)
 taken_assoc None x y z = refl
-taken_assoc (Some Sum) x y z = omega arith
-taken_assoc (Some Least) x y z = omega arith
-taken_assoc (Some Greatest) x y z = omega arith
+taken_assoc (Some fold) x y z = combined_assoc fold x y z
 
 -- to take the earlier word each time is to copy the first
 pub copies_are : (joined xs : List ℕ) → runs_folded (λ x y. x) joined xs ≡ runs_copied joined xs

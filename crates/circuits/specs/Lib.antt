@@ -4,3 +4,5 @@ pub mod Folds
 pub mod Runs
 pub mod RunLoops
 pub mod Copies
+pub mod Blocks
+pub mod Laws

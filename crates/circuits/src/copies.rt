@@ -24,6 +24,7 @@ pub fn run_copies<W: Wires>(
     requires lanes { All (λ column. lanes_of (W.shape wires.old) joined ≡ lanes_of (W.shape wires.old) column) columns.now }
     ensures grows { Grows W.grown W.possible W.shape wires.old wires.new }
     ensures count { IfOk result (λ copies. length copies.items ≡ length columns.now) }
+    ensures made { IfOk result (λ copies. AreMade (W.shape wires.new) copies.items) }
     ensures ok { IfOk result (λ copies. AreCopies (W.possible wires.new) (W.shape wires.new) joined columns.now copies.items (lanes_of (W.shape wires.old) joined)) }
     ensures cost { (levels : ℕ) → lanes_of (W.shape wires.old) joined ≤ 2 ^ levels
         → W.ands wires.new ≤ W.ands wires.old + (length columns.now + 1) * levels * lanes_of (W.shape wires.old) joined }

@@ -1,7 +1,7 @@
 //! Lists of places, for wires that are moved along their lanes.
 #![tactic(auto)]
 
-ghost use Rattle.std.specs.Prelude.{◌≡◌, ◌-◌, ◌^◌, ◌<◌, ◌==◌, map, IfOk, if◌then◌else◌};
+ghost use Rattle.std.specs.Prelude.{◌≡◌, ◌-◌, ◌^◌, ◌<◌, ◌≤◌, ◌==◌, map, IfOk, if◌then◌else◌};
 ghost use Rattle.std.specs.List.{range_with_len};
 
 use std::alloc::{AllocError, Global};
@@ -25,4 +25,13 @@ pub(crate) fn places_but_first(alloc: Global, lanes: usize) -> Result<Vec<u32>, 
     (0..count)
         .map(|lane| if lane == 0 { count } else { lane })
         .collect(alloc)
+}
+
+// The places from..to.
+pub(crate) fn places_between(alloc: Global, from: usize, to: usize) -> Result<Vec<u32>, AllocError>
+    requires from { from ≤ to }
+    requires to { to < 2 ^ 32 }
+    ensures { IfOk result (λ places. places.items ≡ range_with_len from (to - from)) }
+{
+    (from as u32..to as u32).collect(alloc)
 }

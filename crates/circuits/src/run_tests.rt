@@ -7,7 +7,13 @@ use std::alloc::{AllocError, Global};
 use std::test::Fail;
 use wires::{Clear, Tally, Wires};
 
-const FOLDS: [(Fold, u32); 3] = [(Fold::Sum, 15), (Fold::Least, 16), (Fold::Greatest, 16)];
+// The folds, of which none is the sums, and the AND words a lane and level of each.
+const FOLDS: [(Option<Fold>, u32); 4] = [
+    (None, 15),
+    (Some(Fold::Sum), 15),
+    (Some(Fold::Least), 16),
+    (Some(Fold::Greatest), 16),
+];
 
 // The words of the folds of runs; a fold of none is the sums.
 fn folds_of(
@@ -42,6 +48,8 @@ fn runs_are_folded_lane_by_lane(rt: HostRuntime) -> Result<(), Fail> {
         let value = folds_of(rt.alloc(), fold, &joined, &column)?;
         assert_eq!(rt; value.as_slice(), want.as_slice(), "{fold:?}");
     }
+    let value = folds_of(rt.alloc(), None, &joined, &[1, 2, 3, 4, 5])?;
+    assert_eq!(rt; value.as_slice(), [1, 3, 6, 4, 9].as_slice());
     let value = folds_of(rt.alloc(), None, &[1, 7, 2], &[1, 2, 3])?;
     assert_eq!(rt; value.as_slice(), [1, 3, 3].as_slice());
     let value = folds_of(rt.alloc(), None, &[], &[])?;
@@ -50,7 +58,7 @@ fn runs_are_folded_lane_by_lane(rt: HostRuntime) -> Result<(), Fail> {
 }
 
 // What Rust's own arithmetic gives.
-fn folded(fold: Fold, left: u64, right: u64) -> u64 {
+pub(crate) fn folded(fold: Fold, left: u64, right: u64) -> u64 {
     match fold {
         Fold::Sum => left.wrapping_add(right),
         Fold::Least => left.min(right),
@@ -59,7 +67,7 @@ fn folded(fold: Fold, left: u64, right: u64) -> u64 {
 }
 
 #[test]
-fn a_thousand_random_lanes_are_folded(rt: HostRuntime) -> Result<(), Fail> {
+fn a_thousand_random_lanes_are_folded_and_copied(rt: HostRuntime) -> Result<(), Fail> {
     let mut random = StdRng::seed_from_u64(11);
     let mut joined = Vec::new(rt.alloc());
     let mut column = Vec::new(rt.alloc());
@@ -70,28 +78,40 @@ fn a_thousand_random_lanes_are_folded(rt: HostRuntime) -> Result<(), Fail> {
     assert_eq!(rt; joined.len(), 1000);
     assert_eq!(rt; column.len(), 1000);
     for (fold, _) in FOLDS {
-        let value = folds_of(rt.alloc(), Some(fold), joined.as_slice(), column.as_slice())?;
+        let value = folds_of(rt.alloc(), fold, joined.as_slice(), column.as_slice())?;
         assert_eq!(rt; value.len(), 1000);
         let mut so_far = 0;
         for lane in 0..1000 {
             so_far = if lane == 0 || joined[lane] == 0 {
                 column[lane]
             } else {
-                folded(fold, so_far, column[lane])
+                folded(fold.unwrap_or(Fold::Sum), so_far, column[lane])
             };
             assert_eq!(rt; value[lane], so_far, "{fold:?} in lane {lane}");
         }
+    }
+    let value = copies_of(rt.alloc(), joined.as_slice(), column.as_slice())?;
+    assert_eq!(rt; value.len(), 1000);
+    let mut first = 0;
+    for lane in 0..1000 {
+        if lane == 0 || joined[lane] == 0 {
+            first = column[lane];
+        }
+        assert_eq!(rt; value[lane], first, "copies in lane {lane}");
     }
     Ok(())
 }
 
 // The AND words of the folds of runs over lanes of zeros.
-fn cost_of(alloc: Global, fold: Fold, zeros: &[u64]) -> Result<u64, AllocError>
+fn cost_of(alloc: Global, fold: Option<Fold>, zeros: &[u64]) -> Result<u64, AllocError>
     requires { length zeros.now < 2 ^ 32 }
 {
     let mut wires = Tally::new(alloc);
     let x = wires.constant(zeros)?;
-    let _new = run_folds(&mut wires, alloc, fold, x, x)?;
+    let _new = match fold {
+        Some(fold) => run_folds(&mut wires, alloc, fold, x, x)?,
+        None => run_sums(&mut wires, alloc, x, x)?,
+    };
     Ok(wires.and_words())
 }
 
@@ -107,6 +127,33 @@ fn runs_cost_what_is_promised(rt: HostRuntime) -> Result<(), Fail> {
             "{fold:?}"
         );
     }
+    Ok(())
+}
+
+// The words of the copies of one column.
+fn copies_of(alloc: Global, joined: &[u64], column: &[u64]) -> Result<Vec<u64>, AllocError>
+    requires few { length joined.now < 2 ^ 32 }
+    requires lanes { length joined.now ≡ length column.now }
+{
+    let mut wires = Clear::new(alloc);
+    let flags = wires.constant(joined)?;
+    let words = wires.constant(column)?;
+    let copies = run_copies(&mut wires, alloc, flags, &[words])?;
+    wires.value(copies[0]).clone()
+}
+
+#[test]
+fn runs_are_copied_lane_by_lane(rt: HostRuntime) -> Result<(), Fail> {
+    let mut wires = Clear::new(rt.alloc());
+    let joined = wires.constant(&[0, 1, 1, 0, 1])?;
+    let first = wires.constant(&[1, 2, 3, 4, 5])?;
+    let second = wires.constant(&[9, 8, 7, 6, 0])?;
+    let copies = run_copies(&mut wires, rt.alloc(), joined, &[first, second])?;
+    assert_eq!(rt; copies.len(), 2);
+    let value = wires.value(copies[0]);
+    assert_eq!(rt; value.as_slice(), [1, 1, 1, 4, 4].as_slice());
+    let value = wires.value(copies[1]);
+    assert_eq!(rt; value.as_slice(), [9, 9, 9, 6, 6].as_slice());
     Ok(())
 }
 

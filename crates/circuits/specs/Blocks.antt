@@ -1,0 +1,21 @@
+-- Blocks of lanes that lie one after the other: lane i of block j is lane j * width + i.
+use Rattle.std.specs.Prelude.{ℕ, ◌+◌, ◌*◌, List, [], ◌∷◌, ◌++◌, length, map, slice_index, slice_range}
+use Rattle.std.specs.List.{fold, range_with_len}
+use Rattle.lanes.specs.Lanes.{lanewise}
+
+-- the fold of words, from the first on
+abbrev pub words_folded : (ℕ → ℕ → ℕ) → List ℕ → ℕ
+words_folded op [] = 0
+words_folded op (x ∷ xs) = fold op x xs
+
+-- the words of one lane of so many blocks
+abbrev pub lane_of_blocks : ℕ → ℕ → List ℕ → ℕ → List ℕ
+lane_of_blocks count width xs i = map (λ j. slice_index xs (j * width + i)) (range_with_len 0 count)
+
+-- in each lane the fold of that lane over all blocks
+abbrev pub blocks_folded : (ℕ → ℕ → ℕ) → ℕ → ℕ → List ℕ → List ℕ
+blocks_folded op count width xs = map (λ i. words_folded op (lane_of_blocks count width xs i)) (range_with_len 0 width)
+
+-- the first so many words folded with the next so many, and behind them the words that are left
+unfoldable pub halves_folded : (ℕ → ℕ → ℕ) → ℕ → List ℕ → List ℕ
+halves_folded op half xs = lanewise op (slice_range xs 0 half) (slice_range xs half (half + half)) ++ slice_range xs (half + half) (length xs)
