@@ -1,6 +1,6 @@
 -- The invariant of a graph with one statement more.
 use Rattle.std.proofs.Common.{◌≡◌, ℕ, ◌+◌, ◌*◌, ◌<◌, true, [], ◌∷◌, ◌++◌, Some, None, length, sym, ap, ◌∙◌, subst, arith, length-append}
-use Rattle.query_text.specs.Grammar.{FitsForm}
+use Rattle.query_text.specs.Grammar.{Fits}
 use Rattle.query_text.specs.declared.statement.Body.{Body}
 use Rattle.query_graph.specs.declared.graph.Graph.TheInside.{Inside}
 use Rattle.query_graph.specs.declared.node.Node.{Node}
@@ -14,11 +14,11 @@ use Rattle.query_graph.proofs.Grown.{graph_with_node, graph_with_output}
 use Rattle.query_graph.proofs.Invariant.{cells_of-append, narrow-append, sizes_within}
 
 -- with the node of a statement that has no fault
-pub built_node : (before after : Inside) (n : Node) (rows width line : ℕ) (body : Body) → IsBuilt before → FitsForm body → fault_of (content_of before) line body ≡ None
+pub built_node : (before after : Inside) (n : Node) (rows width line : ℕ) (body : Body) → IsBuilt before → Fits body → fault_of (content_of before) line body ≡ None
     → output_of before.nodes line body ≡ None → sizes_fit before.nodes body ≡ true → length before.nodes < 4294967295
     → n ≡ node_of before.nodes line body → after.nodes ≡ before.nodes ++ n ∷ [] → after.outputs.items ≡ before.outputs.items
     → after.cells ≡ before.cells + rows * (width + 1) → rows ≡ rows_of before.nodes body → width ≡ length (columns_of before.nodes body) → IsBuilt after
-built_node before after n high width line body built form passes none fits few is pushed same counts high_is width_is =
+built_node before after n high width line body built real passes none fits few is pushed same counts high_is width_is =
     let rows : n.rows ≡ rows_of before.nodes body = ap (λ (m : Node). m.rows) is in
     let columns : n.columns ≡ columns_of before.nodes body = ap (λ (m : Node). m.columns) is in
     let counted : after.cells ≡ before.cells + cells n.rows (length n.columns)
@@ -29,7 +29,7 @@ built_node before after n high width line body built form passes none fits few i
     let content : content_of after ≡ with_node (content_of before) (node_of before.nodes line body)
     = λ i. record { nodes = (pushed ∙ ap (λ m. before.nodes ++ m ∷ []) is) i; outputs = same i } in
     record {
-      graph = subst IsGraph (sym content) (graph_with_node (content_of before) line body built.graph form passes none few);
+      graph = subst IsGraph (sym content) (graph_with_node (content_of before) line body built.graph real passes none few);
       counted = rw pushed (rw sum (counted ∙ ap (λ c. c + cells n.rows (length n.columns)) built.counted));
       few_cells = rw counted (rw built.counted (rw rows (rw wide within.1)));
       few = rw pushed (omega (arith, few, length-append before.nodes (n ∷ [])));

@@ -4,7 +4,7 @@ use Rattle.std.specs.Prelude.{◌≢◌, AllPairs, nat_le, ◌==◌}
 use Rattle.std.specs.List.{list_any}
 use Rattle.std.proofs.lemmas.List.Elements.{All-push}
 use Rattle.words.specs.declared.column.Column.{Column}
-use Rattle.query_text.specs.Grammar.{FitsForm}
+use Rattle.query_text.specs.Grammar.{Fits, FitsForm}
 use Rattle.query_text.specs.declared.statement.Body.{Body}
 use Rattle.query_text.specs.declared.statement.Body.TheVariants as bodies
 use Rattle.query_text.specs.declared.statement.OutputText.{OutputText}
@@ -113,35 +113,35 @@ new_of_body graph line (bodies.Group g) passes none = new_node line graph.nodes 
 new_of_body graph line (bodies.Distinct d) passes none = new_node line graph.nodes d.name _ passes.taken
 new_of_body graph line (bodies.Output o) passes none = absurd cc
 
-sources_of : (graph : Content) (line : ℕ) (body : Body) → IsGraph graph → FitsForm body → IsFaultless graph line body → output_of graph.nodes line body ≡ None
+sources_of : (graph : Content) (line : ℕ) (body : Body) → IsGraph graph → Fits body → IsFaultless graph line body → output_of graph.nodes line body ≡ None
     → FitsSources graph.nodes (length graph.nodes) (node_of graph.nodes line body) (operator_of graph.nodes body)
-sources_of graph line (bodies.Relation r) is form passes none = relation_is graph line r form
-sources_of graph line (bodies.Filter f) is form passes none = filter_is graph line f form passes
-sources_of graph line (bodies.Select s) is form passes none = select_is graph line s form passes
-sources_of graph line (bodies.Concat c) is form passes none = concat_is graph line c form passes
-sources_of graph line (bodies.Join j) is form passes none = join_is graph line j form passes (tables graph is)
-sources_of graph line (bodies.Group g) is form passes none = group_is graph line g form passes
-sources_of graph line (bodies.Distinct d) is form passes none = distinct_is graph line d form passes
-sources_of graph line (bodies.Output o) is form passes none = absurd cc
+sources_of graph line (bodies.Relation r) is fits passes none = relation_is graph line r fits.form
+sources_of graph line (bodies.Filter f) is fits passes none = filter_is graph line f fits passes
+sources_of graph line (bodies.Select s) is fits passes none = select_is graph line s fits passes
+sources_of graph line (bodies.Concat c) is fits passes none = concat_is graph line c fits.form passes
+sources_of graph line (bodies.Join j) is fits passes none = join_is graph line j fits.form passes (tables graph is)
+sources_of graph line (bodies.Group g) is fits passes none = group_is graph line g fits.form passes
+sources_of graph line (bodies.Distinct d) is fits passes none = distinct_is graph line d fits.form passes
+sources_of graph line (bodies.Output o) is fits passes none = absurd cc
 
-node_is : (graph : Content) (line : ℕ) (body : Body) → IsGraph graph → FitsForm body → fault_of graph line body ≡ None → output_of graph.nodes line body ≡ None
+node_is : (graph : Content) (line : ℕ) (body : Body) → IsGraph graph → Fits body → fault_of graph line body ≡ None → output_of graph.nodes line body ≡ None
     → IsNode graph.nodes (length graph.nodes) (node_of graph.nodes line body)
-node_is graph line body is form passes none =
+node_is graph line body is fits passes none =
     let faults = faultless graph line body passes in
     let limits = within graph line body passes in
-    let some = some_of graph line body is form faults none in
+    let some = some_of graph line body is fits.form faults none in
     record {
       some_rows = some.0;
       few_rows = limits.rows;
       some_columns = some.1;
       few_columns = limits.columns;
       different = (new_of_body graph line body faults none).1;
-      sources = sources_of graph line body is form faults none;
+      sources = sources_of graph line body is fits faults none;
     }
 
-pub graph_with_node : (graph : Content) (line : ℕ) (body : Body) → IsGraph graph → FitsForm body → fault_of graph line body ≡ None → output_of graph.nodes line body ≡ None
+pub graph_with_node : (graph : Content) (line : ℕ) (body : Body) → IsGraph graph → Fits body → fault_of graph line body ≡ None → output_of graph.nodes line body ≡ None
     → length graph.nodes < 4294967295 → IsGraph (with_node graph (node_of graph.nodes line body))
-graph_with_node graph line body is form passes none few =
+graph_with_node graph line body is fits passes none few =
     let n = node_of graph.nodes line body in
     let longer = length-append graph.nodes (n ∷ []) in
     let limits = within graph line body passes in
@@ -149,7 +149,7 @@ graph_with_node graph line body is form passes none few =
       few = omega (arith, few, longer);
       few_cells = rw (cells_of-append graph.nodes n) limits.all;
       names = names_push graph.nodes n is.names (new_of_body graph line body (faultless graph line body passes) none).0;
-      nodes = nodes_push graph.nodes n is.nodes (node_is graph line body is form passes none);
+      nodes = nodes_push graph.nodes n is.nodes (node_is graph line body is fits passes none);
       outputs = λ i o within. let old = is.outputs i o within in omega (arith, old, longer);
       different_outputs = is.different_outputs;
     }

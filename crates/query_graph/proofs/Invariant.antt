@@ -1,5 +1,7 @@
 -- The sizes of a graph with one node more.
-use Rattle.std.proofs.Common.{◌≡◌, ℕ, ◌+◌, ◌≤◌, Bool, true, false, cond, ◌&&◌, List, [], ◌∷◌, ◌++◌, length, refl, ap, ◌∙◌, arith}
+use Rattle.std.proofs.Common.{◌≡◌, ℕ, ◌+◌, ◌*◌, ◌≤◌, Bool, true, false, cond, ◌&&◌, List, [], ◌∷◌, ◌++◌, length, refl, ap, ◌∙◌, arith}
+use mir.Syntax.{w64}
+use mir.Val.{Fits}
 use Rattle.std.specs.Prelude.{nat_le, sum_by}
 use Rattle.std.specs.Str.{bytes_eq}
 use Rattle.std.proofs.lemmas.Bool.Decides.{nat_tests}
@@ -52,3 +54,10 @@ sizes_within nodes body fits =
     let both = and_both (nat_le (rows_of nodes body) row_limit && nat_le (length (columns_of nodes body)) column_limit) _ node in
     let narrow = and_both (nat_le (rows_of nodes body) row_limit) _ both.0 in
     (le_of _ _ narrow.1, le_of _ _ both.1)
+
+-- the cells of a node whose size fits are a number of 64 bits, and so are all cells with it
+pub cells_fit : (nodes : List Node) (body : Body) (before rows width : ℕ) → before ≡ cells_of nodes → sizes_fit nodes body ≡ true → rows ≡ rows_of nodes body
+    → width ≡ length (columns_of nodes body) → Fits w64 (rows * (width + 1)) × Fits w64 (before + rows * (width + 1))
+cells_fit nodes body before rows width counted fits rows_is width_is =
+    let few : before + rows * (width + 1) ≤ cell_limit = rw (counted, rows_is, width_is) (sizes_within nodes body fits).1 in
+    (omega arith, omega arith)

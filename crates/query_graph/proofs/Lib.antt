@@ -4,6 +4,7 @@ pub mod Invariant
 pub mod Places
 pub mod Tables
 pub mod Repeats
+pub mod RealTokens
 pub mod Faultless
 pub mod Different
 pub mod Widths

@@ -9,10 +9,14 @@ use Rattle.std.proofs.lemmas.List.Elements.{All-from_recursion}
 use Rattle.std.proofs.lemmas.Slice.Eq.{bytes_eq-Decides}
 use Rattle.words.specs.declared.column.Column.{Column}
 use Rattle.words.specs.declared.column.Kind.TheVariants.{Flag}
-use Rattle.query_text.specs.Grammar.{FitsForm, IsFilled}
+use Rattle.query_text.specs.Grammar.{Fits, FitsForm, IsFilled}
+use Rattle.query_text.specs.Spelling.{item, test}
 use Rattle.query_text.specs.declared.operand.KindText.{KindText}
 use Rattle.query_text.specs.declared.operand.KindText.TheVariants as written
+use Rattle.query_text.specs.declared.parts.AggregateText.{AggregateText}
 use Rattle.query_text.specs.declared.parts.ColumnText.{ColumnText}
+use Rattle.query_text.specs.declared.parts.ItemText.{ItemText}
+use Rattle.query_text.specs.declared.parts.TestText.{TestText}
 use Rattle.query_text.specs.declared.statement.Body.{Body}
 use Rattle.query_text.specs.declared.statement.Body.TheVariants as bodies
 use Rattle.query_text.specs.declared.statement.ConcatText.{ConcatText}
@@ -35,8 +39,9 @@ use Rattle.query_graph.specs.Shapes.{keyless_fits, same_column, same_columns, sh
 use Rattle.query_graph.specs.Sizes.{bounded, counts_fit, group_rows, is_bound}
 use Rattle.query_graph.specs.Used.{unknown_column, unknown_columns, unknown_in_aggregate, unknown_in_item, unknown_in_test, unknown_node, used_nodes}
 use Rattle.query_graph.proofs.Different.{different_behind, each_of, keys_differ, numbers_differ}
-use Rattle.query_graph.proofs.Faultless.{aggregate_gathers, all_of, both_none, both_true, item_makes, key_is, kind_same, known_column, known_of, test_is, zip_of}
+use Rattle.query_graph.proofs.Faultless.{aggregate_gathers, all_of, both_none, both_true, each_unit, item_makes, key_is, kind_same, known_column, known_of, test_is, zip_of}
 use Rattle.query_graph.proofs.Places.{column_within, node_at_number, node_within, of_known_node, rows_at_number}
+use Rattle.query_graph.proofs.RealTokens.{AreReal, real_items, real_tests}
 use Rattle.query_graph.proofs.Widths.{cons_same, count_others, key_columns}
 
 -- columns that differ, at least one, and at least one row
@@ -79,28 +84,30 @@ relation_is graph line r form = record {
   stored = All-from_recursion (λ (c : Column). c.kind ≢ Flag) (map declared_column r.columns) (stored r.columns);
 }
 
-pub filter_is : (graph : Content) (line : ℕ) (f : FilterText) → FitsForm (bodies.Filter f) → IsFaultless graph line (bodies.Filter f)
+pub filter_is : (graph : Content) (line : ℕ) (f : FilterText) → Fits (bodies.Filter f) → IsFaultless graph line (bodies.Filter f)
     → FitsSources graph.nodes (length graph.nodes) (node_of graph.nodes line (bodies.Filter f)) (operator_of graph.nodes (bodies.Filter f))
-filter_is graph line f form passes =
+filter_is graph line f fits passes =
     let source = node_columns graph.nodes f.source in
     source_of graph.nodes f.source _ (known_node line graph.nodes f.source [] passes.nodes) (record {
       columns = refl;
       size = refl;
-      filled = filled_map (test_of source) f.tests form.0;
+      filled = filled_map (test_of source) f.tests fits.form.0;
       tests = All-from_recursion (IsTest source) (map (test_of source) f.tests)
-          (all_of (unknown_in_test line source source) (test_fits source) (test_of source) (IsTest source) (test_is line source) f.tests passes.columns passes.kinds);
+          (all_of (λ (t : TestText). AreReal (test t)) (unknown_in_test line source source) (test_fits source) (test_of source) (IsTest source) (test_is line source)
+          f.tests (real_tests f fits) passes.columns passes.kinds);
       bound = passes.counts;
-      clear = form.1;
+      clear = fits.form.1;
     })
 
-pub select_is : (graph : Content) (line : ℕ) (s : SelectText) → FitsForm (bodies.Select s) → IsFaultless graph line (bodies.Select s)
+pub select_is : (graph : Content) (line : ℕ) (s : SelectText) → Fits (bodies.Select s) → IsFaultless graph line (bodies.Select s)
     → FitsSources graph.nodes (length graph.nodes) (node_of graph.nodes line (bodies.Select s)) (operator_of graph.nodes (bodies.Select s))
-select_is graph line s form passes =
+select_is graph line s fits passes =
     let source = node_columns graph.nodes s.source in
     source_of graph.nodes s.source _ (known_node line graph.nodes s.source [] passes.nodes) (record {
-      columns = zip_of (unknown_in_item line source source) (item_fits source) (item_of source) (item_column source) (Makes source) (item_makes line source) s.items passes.columns passes.kinds;
+      columns = zip_of (λ (i : ItemText). AreReal (item i)) (unknown_in_item line source source) (item_fits source) (item_of source) (item_column source) (Makes source)
+          (item_makes line source) s.items (real_items s fits) passes.columns passes.kinds;
       size = refl;
-      clear = form.1;
+      clear = fits.form.1;
     })
 
 pub distinct_is : (graph : Content) (line : ℕ) (d : DistinctText) → FitsForm (bodies.Distinct d) → IsFaultless graph line (bodies.Distinct d)
@@ -137,10 +144,10 @@ concat_is graph line c form passes =
       some = rw many form.0;
       few = rw many form.1;
       columns = All-from_recursion (λ s. IsSource graph.nodes (length graph.nodes) s P) (map (node_number graph.nodes) c.sources)
-          (all_of (unknown_node line graph.nodes) (λ source. same_columns (node_columns graph.nodes source) columns) (node_number graph.nodes)
+          (all_of (λ (source : List ℕ). Unit {0}) (unknown_node line graph.nodes) (λ source. same_columns (node_columns graph.nodes source) columns) (node_number graph.nodes)
           (λ s. IsSource graph.nodes (length graph.nodes) s P)
-          (λ source known same. source_of graph.nodes source P (known_of _ _ known) (sym (columns_same (node_columns graph.nodes source) columns same)))
-          c.sources passes.nodes passes.shape);
+          (λ source unit known same. source_of graph.nodes source P (known_of _ _ known) (sym (columns_same (node_columns graph.nodes source) columns same)))
+          c.sources (each_unit c.sources) passes.nodes passes.shape);
       size = ap sum (summed graph.nodes c.sources);
     }
 
@@ -210,8 +217,8 @@ join_fits nodes line j left right form left_differ right_differ known new kinds 
     record {
       filled = filled_map (key_numbers left right) j.keys form.0;
       keys = All-from_recursion (IsKey left right) (map (key_numbers left right) j.keys)
-          (all_of (unknown_column line left right) (λ key. same_kind (column_kind left key) (column_kind right key)) (key_numbers left right) (IsKey left right)
-          (key_is line left right) j.keys known kinds);
+          (all_of (λ (key : List ℕ). Unit {0}) (unknown_column line left right) (λ key. same_kind (column_kind left key) (column_kind right key)) (key_numbers left right)
+          (IsKey left right) (λ key unit. key_is line left right key) j.keys (each_unit j.keys) known kinds);
       different_left = subst (AllPairs (λ (a b : ℕ). a ≢ b)) (firsts left right j.keys) (numbers_differ left j.keys known_left differ);
       different_right = subst (AllPairs (λ (a b : ℕ). a ≢ b)) (seconds left right j.keys) (numbers_differ right j.keys known_right differ);
       key_columns = ap (λ columns. map Some (take (length (map (key_numbers left right) j.keys)) columns)) apart
@@ -281,7 +288,8 @@ group_is graph line g form passes =
       filled = filled_map (aggregate_of source) g.aggregates form.0;
       columns = subst (AllZip (Gathers source) (map (aggregate_of source) g.aggregates))
           (sym (ap (λ n. drop n (map (key_column source) g.keys ++ rest)) (numbers ∙ sym made) ∙ drop-append_seam (map (key_column source) g.keys) rest))
-          (zip_of (unknown_in_aggregate line source source) (aggregate_fits source) (aggregate_of source) (aggregate_column source) (Gathers source) (aggregate_gathers line source) g.aggregates none.1 passes.kinds);
+          (zip_of (λ (a : AggregateText). Unit {0}) (unknown_in_aggregate line source source) (aggregate_fits source) (aggregate_of source) (aggregate_column source)
+          (Gathers source) (λ a unit. aggregate_gathers line source a) g.aggregates (each_unit g.aggregates) none.1 passes.kinds);
       width = length-append (map (key_column source) g.keys) rest ∙ (ap (λ n. n + length rest) (made ∙ sym numbers) ∙ ap (λ n. length (map (column_number source) g.keys) + n)
           (length-map g.aggregates (aggregate_column source) ∙ sym (length-map g.aggregates (aggregate_of source))));
       size = ap (bounded g.at_most) (grouped_rows (column_number source) g.keys g.parts_at_most (node_rows graph.nodes g.source));

@@ -1,5 +1,5 @@
 -- What is true of every graph: its nodes and outputs, with numbers for names.
-use Rattle.std.specs.Prelude.{◌≡◌, ◌≢◌, ℕ, ◌+◌, ◌*◌, ◌<◌, ◌≤◌, ◌^◌, ⊤, true, ◌||◌, List, [], Some, None, Ok, is_none, length, map, take, drop, sum, slice_get, All, AllPairs, IsSomeAnd}
+use Rattle.std.specs.Prelude.{◌≡◌, ◌≢◌, ℕ, ◌+◌, ◌*◌, ◌<◌, ◌≤◌, ◌^◌, true, ◌||◌, List, [], Some, None, Ok, is_none, length, map, take, drop, sum, slice_get, All, AllPairs, IsSomeAnd}
 use Rattle.std.specs.List.{AllZip}
 use Rattle.std.specs.Option.{option_map_or}
 use Rattle.words.specs.Texts.{text_of}
@@ -45,9 +45,9 @@ pub record IsColumnOf (columns : List Column) (kind : Kind) (c : ℕ) : Type 0 w
   pub within : c < length columns
   pub same : kind_at columns c ≡ kind
 
--- a word that a column of this kind may hold: any number, the word of a text, 0 or 1
+-- a word that a column of this kind may hold: a number below 2^64, the word of a text, 0 or 1
 abbrev pub IsWordOf : Kind → ℕ → Type 0
-IsWordOf Num word = ⊤
+IsWordOf Num word = word < 2 ^ 64
 IsWordOf Text word = (bytes : List ℕ) × (text_of bytes ≡ Ok word)
 IsWordOf Flag word = word ≤ 1
 

@@ -2,7 +2,7 @@
 #![tactic(auto)]
 
 ghost use Rattle.std.specs.Prelude.{All, IfErr, IfOk};
-ghost use Rattle.query_text.specs.Grammar.{FitsForm};
+ghost use Rattle.query_text.specs.Grammar.{Fits};
 ghost use Rattle.query_graph.specs.Build.{Gives, graph_of};
 ghost use Rattle.query_graph.specs.IsGraph.{IsGraph};
 ghost use Rattle.query_graph.specs.Statements.{IsFaultOf, IsGraphOf};
@@ -28,7 +28,7 @@ pub fn build(alloc: Global, query: &Query) -> Result<Graph, GraphFault>
 // The graph of these statements, or the first rule that fails.
 #[tactic(auto, using(crate::proofs::GraphSteps::statement_passes, crate::proofs::GraphSteps::statement_fails))]
 fn graph_of_statements(alloc: Global, statements: &[Statement]) -> Result<Graph, GraphFault>
-    requires fit { All (λ s. FitsForm s.body) statements.now }
+    requires fit { All (λ s. Fits s.body) statements.now }
     ensures exact { Gives result (graph_of statements.now) }
     ensures graph { IfOk result (λ graph. IsGraph graph) }
 {

@@ -2,7 +2,7 @@
 #![tactic(auto)]
 
 ghost use Rattle.std.specs.Prelude.{◌≡◌, OnOk};
-ghost use Rattle.query_text.specs.Grammar.{FitsForm};
+ghost use Rattle.query_text.specs.Grammar.{Fits};
 ghost use Rattle.query_graph.specs.Faults.{Passes};
 ghost use Rattle.query_graph.specs.IsGraph.{IsGraph};
 
@@ -71,7 +71,7 @@ impl Graph {
 
     // Adds a statement, or says which rule it breaks first.
     pub(crate) fn add(&mut self, alloc: Global, line: u32, body: &Body) -> Result<(), GraphFault>
-        requires form { FitsForm body.now }
+        requires fits { Fits body.now }
         ensures rules { Passes result (fault_of self.old line body.now) }
         ensures added { OnOk result (self.new ≡ with_statement self.old line body.now) }
     {
