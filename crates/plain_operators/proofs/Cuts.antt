@@ -4,7 +4,7 @@ use Rattle.std.specs.List.{All, filter, flat_map, list_all}
 use Rattle.std.proofs.lemmas.List.{append-nil, length-map, map-append, map-id}
 use Rattle.std.proofs.Math.Nat.{add_assoc, add_comm, max_comm, min_comm}
 use Rattle.std.proofs.lemmas.List.Concat.{flat_map-append}
-use Rattle.std.proofs.lemmas.List.Elements.{All-filter, All-head, All-tail, All-weaker, filter-append}
+use Rattle.std.proofs.lemmas.List.Elements.{All-filter, All-head, All-map, All-tail, All-weaker, filter-append}
 use Rattle.bags.specs.Bag.{SameBag, SameBagBy, row_eq}
 use Rattle.bags.proofs.Bags.{SameBag-append, SameBag-map, SameBag-refl, SameBag-same, SameBag-trans}
 use Rattle.bags.proofs.Folds.{fold_op_bag}
@@ -16,8 +16,9 @@ use Rattle.plain_operators.specs.declared.aggregate.Aggregate.{Aggregate}
 use Rattle.plain_operators.specs.Operators.{distinct_rows, grouped_row, grouped_rows, have_equal_keys, joined_row, joined_rows, joined_rows_of, key_lists, left_keys, right_keys, rows_of_items, rows_with}
 use Rattle.plain_operators.specs.Cuts.{AggregatesOfCuts, CutsAgree, DependsOn, GroupDependsOn, JoinDependsOn, OperatorsOfCuts, SameCut}
 use Rattle.plain_operators.proofs.Aggregates.{max_assoc, min_assoc}
-use Rattle.plain_operators.proofs.DistinctRows.{SameBag-distinct_rows}
-use Rattle.plain_operators.proofs.Lists.{flat_map_same, map_agree, map-flat_map, map_map, map_same}
+use Rattle.plain_operators.proofs.DistinctRows.{All-distinct_rows, SameBag-distinct_rows}
+use Rattle.plain_operators.proofs.Lists.{All-each, flat_map_same, map_agree, map-flat_map, map_map}
+use Rattle.plain_operators.proofs.Sizes.{length-cut}
 
 -- a test that depends on the columns keeps rows with the same bag of cuts
 kept_cuts : (width : ℕ) (columns : List ℕ) (p : List ℕ → Bool) {xs ys : List (List ℕ)} → DependsOn width columns p → SameCut width columns xs ys → SameCut width columns (filter p xs) (filter p ys)
@@ -110,19 +111,23 @@ distinct_cuts width columns xs ys depends same =
     let whole : SameBag (map (λ row. row) xs) (map (λ row. row) ys) = mapped_cuts width columns (λ row. row) depends same in
     SameBag-distinct_rows (SameBag-trans (SameBag-same (sym (map-id xs))) (SameBag-trans whole (SameBag-same (map-id ys))))
 
-grouped_cuts : (keys : List ℕ) (aggregates : List Aggregate) (width : ℕ) (columns wanted : List ℕ) (xs ys : List (List ℕ)) → DependsOn width columns (cut keys) → GroupDependsOn aggregates width columns wanted
+grouped_cuts : (keys : List ℕ) (aggregates : List Aggregate) (width : ℕ) (columns wanted : List ℕ) (xs ys : List (List ℕ)) → DependsOn width columns (cut keys) → GroupDependsOn (length keys) aggregates width columns wanted
     → SameCut width columns xs ys → CutsAgree wanted (grouped_rows keys aggregates xs) (grouped_rows keys aggregates ys)
 grouped_cuts keys aggregates width columns wanted xs ys keyed depends same =
     let lists : SameBag (key_lists keys xs) (key_lists keys ys) = SameBag-distinct_rows (mapped_cuts width columns (cut keys) keyed same) in
     let f = λ (key : List ℕ). cut wanted (grouped_row keys aggregates xs key) in
     let g = λ (key : List ℕ). cut wanted (grouped_row keys aggregates ys key) in
-    let each : (key : List ℕ) → f key ≡ g key = λ key.
-    depends key (rows_with keys xs key) (rows_with keys ys key) (kept_cuts width columns (λ row. row_eq (cut keys row) key) (λ a b long long_too e. ap (λ own. row_eq own key) (keyed a b long long_too e)) same) in
+    let P : List ℕ → Type 0 = λ key. length key ≡ length keys in
+    let each : (key : List ℕ) → P key → f key ≡ g key = λ key long.
+    depends key (rows_with keys xs key) (rows_with keys ys key) long (kept_cuts width columns (λ row. row_eq (cut keys row) key) (λ a b long long_too e. ap (λ own. row_eq own key) (keyed a b long long_too e)) same) in
+    let long : All P (key_lists keys ys) = All-distinct_rows P (map (cut keys) ys) (All-map P (cut keys) ys (All-each (λ row. P (cut keys row)) (length-cut keys) ys)) in
+    let agree = map_agree f g (key_lists keys ys) (All-weaker P (λ key. f key ≡ g key) each (key_lists keys ys) long) in
     SameBag-trans (SameBag-same (map_map (cut wanted) (grouped_row keys aggregates xs) (key_lists keys xs)))
-    (SameBag-trans (SameBag-map row_test f lists) (SameBag-same (map_same f g each (key_lists keys ys) ∙ sym (map_map (cut wanted) (grouped_row keys aggregates ys) (key_lists keys ys)))))
+    (SameBag-trans (SameBag-map row_test f lists) (SameBag-same (agree ∙ sym (map_map (cut wanted) (grouped_row keys aggregates ys) (key_lists keys ys)))))
 
 pub operators_of_cuts : OperatorsOfCuts
 operators_of_cuts = record {
+  fewer = λ width columns wanted xs ys depends same. mapped_cuts width columns (cut wanted) depends same;
   kept = λ width columns tests xs ys all same. (let p = λ (row : List ℕ). list_all (λ (test : List ℕ → Bool). test row) tests in let rows : SameCut width columns (filter p xs) (filter p ys) = kept_cuts width columns p (all_depend width columns tests all) same in rows.bag);
   items = items_cuts;
   joined = λ keys left_width right_width left right wanted xs ys us vs lefts_depend rights_depend depends. joined_cuts keys left_width right_width left right wanted depends lefts_depend rights_depend xs ys us vs;
