@@ -7,6 +7,7 @@ use Rattle.std.proofs.lemmas.List.Elements.{All-cons, All-map, All-nil, All-weak
 use Rattle.std.proofs.lemmas.Option.{get_or_from_slice_get}
 use Rattle.words.specs.declared.column.Column.{Column}
 use Rattle.words.specs.declared.column.Kind.{Kind}
+use Rattle.words.specs.declared.column.Kind.TheVariants.{Num, Flag}
 use Rattle.query_text.specs.declared.operand.Op.{Op}
 use Rattle.query_text.specs.declared.operand.Op.TheVariants as ops
 use Rattle.query_graph.specs.declared.node.Node.{Node}
@@ -25,7 +26,7 @@ use Rattle.plain_operators.specs.Operators.{left_keys, right_keys}
 use Rattle.plain_operators.specs.Sizes.{joined_width}
 use Rattle.plain_operators.specs.Within.{HasColumns, IsAggregateOf, IsItemOf, IsOperandOf, IsTestOf}
 use Rattle.plain_meaning.specs.Convert.{aggregate_of, item_of, operand_of, test_of}
-use Rattle.plain_meaning.specs.Fits.{FitsEarlier, FitsRelation, width_at, widths_of}
+use Rattle.plain_meaning.specs.Fits.{FitsEarlier, FitsRelation, width_at, widths_before, widths_of}
 use Rattle.plain_meaning.specs.Meaning.{is_relation}
 use Rattle.plain_operators.proofs.Lists.{map_map}
 use Rattle.plain_meaning.proofs.Others.{others_count}
@@ -38,14 +39,18 @@ both_fit : (columns : List Column) (kind : Kind) (left right : graph_operand.Ope
     → IsOperandOf (length columns) (operand_of left) × IsOperandOf (length columns) (operand_of right)
 both_fit columns kind left right h = (operand_fits columns kind left h.left_fits, operand_fits columns kind right h.right_fits)
 
+-- what an operation takes has one kind
+pub taken_kind : (columns : List Column) (op : Op) (left right : graph_operand.Operand) → graph.AreTaken columns op left right → (kind : Kind) × graph.AreOperandsOf columns kind left right
+taken_kind columns (ops.Compare cmp) left right h = h
+taken_kind columns ops.Add left right h = (Num, h)
+taken_kind columns ops.Sub left right h = (Num, h)
+taken_kind columns ops.Mul left right h = (Num, h)
+taken_kind columns ops.And left right h = (Flag, h)
+taken_kind columns ops.Or left right h = (Flag, h)
+
 taken_fit : (columns : List Column) (op : Op) (left right : graph_operand.Operand) → graph.AreTaken columns op left right
     → IsOperandOf (length columns) (operand_of left) × IsOperandOf (length columns) (operand_of right)
-taken_fit columns (ops.Compare cmp) left right h = both_fit columns h.0 left right h.1
-taken_fit columns ops.Add left right h = both_fit columns _ left right h
-taken_fit columns ops.Sub left right h = both_fit columns _ left right h
-taken_fit columns ops.Mul left right h = both_fit columns _ left right h
-taken_fit columns ops.And left right h = both_fit columns _ left right h
-taken_fit columns ops.Or left right h = both_fit columns _ left right h
+taken_fit columns op left right h = let taken = taken_kind columns op left right h in both_fit columns taken.0 left right taken.1
 
 tests_fit : (columns : List Column) (tests : List graph_test.Test) → All (graph.IsTest columns) tests → All (IsTestOf (length columns)) (map test_of tests)
 tests_fit columns tests all = All-map (IsTestOf (length columns)) test_of tests (All-weaker (graph.IsTest columns) (λ t. IsTestOf (length columns) (test_of t)) (λ t h. taken_fit columns (ops.Compare t.cmp) t.left t.right h) tests all)
@@ -78,10 +83,6 @@ aggregates_fit columns [] (column ∷ made) h = absurd h
 aggregates_fit columns (aggregate ∷ rest) [] h = absurd h
 aggregates_fit columns (aggregate ∷ rest) (column ∷ made) h =
     All-cons (IsAggregateOf (length columns)) (aggregate_of aggregate) (map aggregate_of rest) (aggregate_fits columns aggregate column h.0) (aggregates_fit columns rest made h.1)
-
--- the widths of the first nodes
-abbrev pub widths_before : List Node → ℕ → List ℕ
-widths_before nodes i = map (λ n. length n.columns) (take i nodes)
 
 -- over the first nodes
 module _ (nodes : List Node) (i : ℕ) (short : i ≤ length nodes) where

@@ -1,7 +1,9 @@
+pub mod Constants
 pub mod Files
 pub mod FitsNode
 pub mod NodeRows
 pub mod Nodes
 pub mod Others
 pub mod Steps
+pub mod TextWords
 pub mod Widths

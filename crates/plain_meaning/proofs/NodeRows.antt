@@ -24,9 +24,10 @@ use Rattle.plain_operators.proofs.Sizes.{grouped_rows-IsOfWords, joined_rows-All
 use Rattle.plain_operators.proofs.Words.{rows_of_items-IsOfWords}
 use Rattle.plain_meaning.specs.Convert.{aggregate_of, item_of, test_of}
 use Rattle.plain_meaning.specs.Fits.{FitsEarlier, width_at}
-use Rattle.plain_meaning.specs.Laws.{KeepBounds, SelectsWords}
+use Rattle.plain_meaning.specs.Laws.{KeepBounds}
 use Rattle.plain_meaning.specs.Meaning.{group_rows, is_relation, node_rows, rows_of}
 use Rattle.plain_meaning.specs.Plain.{is_over}
+use Rattle.plain_meaning.proofs.Constants.{items_constants}
 use Rattle.plain_meaning.proofs.FitsNode.{source}
 use Rattle.plain_meaning.proofs.Widths.{group_rows-AllWide, rows_of_items-AllWide}
 
@@ -66,18 +67,20 @@ group_rows-IsOfWords : (keys : List ℕ) (aggregates : List Aggregate) (rows : L
 group_rows-IsOfWords [] aggregates rows few words = whole_table_rows-IsOfWords aggregates rows few words
 group_rows-IsOfWords (key ∷ keys) aggregates rows few words = grouped_rows-IsOfWords (key ∷ keys) aggregates rows few words
 
-module _ (files : List (List (List ℕ))) (widths : List ℕ) (width : ℕ) (earlier : List (List (List ℕ))) (each : (s : ℕ) → s < length widths → (length (rows_of earlier s) < 2 ^ 64) × All IsOfWords (rows_of earlier s)) where
-  pub node_rows-IsOfWords : (shape : Operator) → FitsEarlier files widths width shape → SelectsWords shape → All IsOfWords (get_or files 0 []) → All IsOfWords (node_rows shape (get_or files 0 []) earlier)
-  node_rows-IsOfWords (operators.Relation r) h constants file = file
-  node_rows-IsOfWords (operators.Filter f) h constants file =
+module _ (nodes : List Node) (i : ℕ) (short : i ≤ length nodes) (n : Node) (files : List (List (List ℕ))) (widths : List ℕ) (width : ℕ) (earlier : List (List (List ℕ))) (each : (s : ℕ) → s < length widths → (length (rows_of earlier s) < 2 ^ 64) × All IsOfWords (rows_of earlier s)) where
+  pub node_rows-IsOfWords : (shape : Operator) → graph.FitsSources nodes i n shape → FitsEarlier files widths width shape → All IsOfWords (get_or files 0 []) → All IsOfWords (node_rows shape (get_or files 0 []) earlier)
+  node_rows-IsOfWords (operators.Relation r) is h file = file
+  node_rows-IsOfWords (operators.Filter f) is h file =
       All-filter (λ row. list_all (λ test. test row) (map holds_of (map test_of f.tests))) IsOfWords (rows_of earlier f.source) (each f.source h.source).1
-  node_rows-IsOfWords (operators.Select s) h constants file = rows_of_items-IsOfWords (map item_of s.items) (rows_of earlier s.source) constants (each s.source h.source).1
-  node_rows-IsOfWords (operators.Concat c) h constants file = All-flat_map IsOfWords (rows_of earlier) c.sources (λ k d below. (each (get_or c.sources k d) (h.sources k d below)).1)
-  node_rows-IsOfWords (operators.Join j) h constants file = joined_rows-IsOfWords j.keys (rows_of earlier j.left) (rows_of earlier j.right) (each j.left h.left).1 (each j.right h.right).1
-  node_rows-IsOfWords (operators.Group g) h constants file =
+  node_rows-IsOfWords (operators.Select select) is h file =
+      let s = source nodes i short select.source (λ columns rows. graph.IsSelect columns rows n select) is in
+      rows_of_items-IsOfWords (map item_of select.items) (rows_of earlier select.source) (items_constants s.found.columns select.items n.columns s.fits.columns) (each select.source h.source).1
+  node_rows-IsOfWords (operators.Concat c) is h file = All-flat_map IsOfWords (rows_of earlier) c.sources (λ k d below. (each (get_or c.sources k d) (h.sources k d below)).1)
+  node_rows-IsOfWords (operators.Join j) is h file = joined_rows-IsOfWords j.keys (rows_of earlier j.left) (rows_of earlier j.right) (each j.left h.left).1 (each j.right h.right).1
+  node_rows-IsOfWords (operators.Group g) is h file =
       let own = each g.source h.source in
       group_rows-IsOfWords g.keys (map aggregate_of g.aggregates) (rows_of earlier g.source) own.0 own.1
-  node_rows-IsOfWords (operators.Distinct d) h constants file = All-distinct_rows IsOfWords (rows_of earlier d.source) (each d.source h.source).1
+  node_rows-IsOfWords (operators.Distinct d) is h file = All-distinct_rows IsOfWords (rows_of earlier d.source) (each d.source h.source).1
 
 -- numbers of rows
 

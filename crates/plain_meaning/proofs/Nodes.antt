@@ -10,10 +10,10 @@ use Rattle.std.proofs.lemmas.Option.{get_or_from_slice_get, slice_get-get_or, sl
 use Rattle.query_graph.specs.IsGraph as graph
 use Rattle.query_graph.specs.declared.node.Node.{Node}
 use Rattle.plain_operators.specs.Sizes.{AllWide, IsOfWords}
-use Rattle.plain_meaning.specs.Fits.{AreRowsOf, FitsEarlier, IsWorldOf, relations}
-use Rattle.plain_meaning.specs.Laws.{AllSelectWords, FirstKeepBounds, KeepBounds, NodesAreOfWords, NodesAreWide, NodesKeepSizes, NodesMeanOperators, SelectsWords, relations_before}
+use Rattle.plain_meaning.specs.Fits.{AreRowsOf, FitsEarlier, IsWorldOf, relations, widths_before}
+use Rattle.plain_meaning.specs.Laws.{FirstKeepBounds, KeepBounds, NodesAreOfWords, NodesAreWide, NodesFitEarlier, NodesKeepSizes, NodesMeanOperators, relations_before}
 use Rattle.plain_meaning.specs.Meaning.{files_after, is_relation, meanings, meanings_after, node_rows, rows_of}
-use Rattle.plain_meaning.proofs.FitsNode.{fits_before, length-widths_before, width_before, widths_before}
+use Rattle.plain_meaning.proofs.FitsNode.{fits_before, length-widths_before, width_before}
 use Rattle.plain_meaning.proofs.NodeRows.{length-node_rows, node_rows-AllWide, node_rows-IsOfWords}
 use Rattle.plain_meaning.proofs.Steps.{first_file, front, next, next_files, other_files}
 
@@ -36,7 +36,7 @@ module _ (nodes : List Node) (world : List (List (List ℕ))) (are_nodes : (i : 
     pub meant : rows ≡ node_rows n.shape (rows_of world (relations_before nodes i)) (take i (meanings nodes world))
     pub wide : AllWide (length n.columns) rows
     pub few : FirstKeepBounds nodes world (i + 1) → length rows ≤ n.rows
-    pub words : FirstKeepBounds nodes world i → AllSelectWords nodes → All (All IsOfWords) world → All IsOfWords rows
+    pub words : FirstKeepBounds nodes world i → All (All IsOfWords) world → All IsOfWords rows
 
   -- the rows of the first nodes
   record Reached (relation : ℕ) (earlier : List (List (List ℕ))) : Type 0 where
@@ -111,14 +111,13 @@ module _ (nodes : List Node) (world : List (List (List ℕ))) (are_nodes : (i : 
       few = λ bounds. length-node_rows nodes (length earlier) short (get_or (drop relation world) 0 []) earlier
           (λ s m lower found. (reached.shown s m lower found).few (fewer (s + 1) (length earlier + 1) (omega arith) bounds)) n n.shape (are_nodes (length earlier) n is).sources
           (first_few n (drop (length earlier + 1) nodes) (drop relation world) files_here) (subst (KeepBounds n.shape) own (bounds (length earlier) n (omega arith) is));
-      words = λ bounds constants words. node_rows-IsOfWords (drop relation world) (widths_before nodes (length earlier)) (length n.columns) earlier
+      words = λ bounds words. node_rows-IsOfWords nodes (length earlier) short n (drop relation world) (widths_before nodes (length earlier)) (length n.columns) earlier
           (λ s inside.
           let source = source_shown s inside in
           let lower = source.1 in
           let few = source.3.few (fewer (s + 1) (length earlier) (omega arith) bounds) in
           let limited = (are_nodes s source.0 source.2).few_rows in
-          (omega (arith, few, limited), source.3.words (fewer s (length earlier) (omega arith) bounds) constants words)) n.shape fits
-          (subst (λ (m : Node). SelectsWords m.shape) (get_or_from_slice_get nodes (length earlier) n n is) (constants (length earlier) n below)) (first_words world relation words);
+          (omega (arith, few, limited), source.3.words (fewer s (length earlier) (omega arith) bounds) words)) n.shape (are_nodes (length earlier) n is).sources fits (first_words world relation words);
     }
 
     reached_on : Reached (next n.shape relation) (earlier ++ rows ∷ [])
@@ -172,6 +171,11 @@ module _ (nodes : List Node) (world : List (List (List ℕ))) (are_nodes : (i : 
 
 pub nodes_mean_operators : NodesMeanOperators
 nodes_mean_operators graph world i node h = (shown_all graph.nodes world h.is_graph.nodes h.is_world i node h.is_node).meant
+
+pub nodes_fit_earlier : NodesFitEarlier
+nodes_fit_earlier graph i node files is_graph at first =
+    let below = slice_get_within graph.nodes i node at in
+    fits_before graph.nodes i (omega arith) files node first (is_graph.nodes i node at)
 
 pub nodes_are_wide : NodesAreWide
 nodes_are_wide graph world i node h = (shown_all graph.nodes world h.is_graph.nodes h.is_world i node h.is_node).wide

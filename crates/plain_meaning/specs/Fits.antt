@@ -1,5 +1,5 @@
 -- Which tables are those of a graph's relations.
-use Rattle.std.specs.Prelude.{◌≡◌, ℕ, ◌+◌, ◌<◌, ◌≤◌, List, [], length, map, slice_index, slice_index_or}
+use Rattle.std.specs.Prelude.{◌≡◌, ℕ, ◌+◌, ◌<◌, ◌≤◌, List, [], length, map, take, slice_index, slice_index_or}
 use Rattle.std.specs.List.{All, AllZip, filter}
 use Rattle.tables.specs.Content as table
 use Rattle.query_graph.specs.declared.node.Node.{Node}
@@ -49,6 +49,10 @@ width_at widths node = slice_index widths node
 
 abbrev pub width_in : List table.Content → ℕ → ℕ
 width_in tables number = width_at (widths_of tables) number
+
+-- the widths of the first nodes, so many
+abbrev pub widths_before : List Node → ℕ → List ℕ
+widths_before nodes i = map (λ n. length n.columns) (take i nodes)
 
 -- over earlier tables of these widths, an operator whose rows have this width
 pub record FitsFilter (widths : List ℕ) (width : ℕ) (f : Filter) : Type 0 where

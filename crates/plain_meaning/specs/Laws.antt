@@ -1,5 +1,5 @@
 -- What holds of the rows of each node of a graph, each law as one statement.
-use Rattle.std.specs.Prelude.{◌≡◌, ℕ, ◌+◌, ◌*◌, ◌<◌, ◌≤◌, false, List, Option, Some, None, length, map, take, slice_get}
+use Rattle.std.specs.Prelude.{◌≡◌, ℕ, ◌+◌, ◌*◌, ◌<◌, ◌≤◌, true, false, List, Option, Some, None, length, take, slice_get}
 use Rattle.std.specs.List.{All}
 use Rattle.std.specs.Option.{option_map}
 use Rattle.query_graph.specs.Content as graph_content
@@ -7,10 +7,9 @@ use Rattle.query_graph.specs.IsGraph.{IsGraph}
 use Rattle.query_graph.specs.declared.node.Node.{Node}
 use Rattle.query_graph.specs.declared.operator.Operator.{Operator}
 use Rattle.query_graph.specs.declared.operator.Operator.TheVariants.{Relation, Filter, Select, Concat, Join, Group, Distinct}
-use Rattle.plain_operators.specs.Sizes.{AllWide, HasWordConstants, IsOfWords}
-use Rattle.plain_meaning.specs.Convert.{item_of}
-use Rattle.plain_meaning.specs.Fits.{IsWorldOf, relations}
-use Rattle.plain_meaning.specs.Meaning.{meanings, node_rows, rows_of}
+use Rattle.plain_operators.specs.Sizes.{AllWide, IsOfWords}
+use Rattle.plain_meaning.specs.Fits.{FitsEarlier, FitsRelation, IsWorldOf, relations, widths_before}
+use Rattle.plain_meaning.specs.Meaning.{is_relation, meanings, node_rows, rows_of}
 use Rattle.plain_meaning.specs.Plain.{bound_of, is_over}
 
 -- the most rows of a group whose rows come in three parts, each under a bound
@@ -32,19 +31,6 @@ pub record KeepBounds (shape : Operator) (rows : List (List ℕ)) : Type 0 where
 abbrev pub FirstKeepBounds : List Node → List (List (List ℕ)) → ℕ → Type 0
 FirstKeepBounds nodes world count = (i : ℕ) (node : Node) → i < count → slice_get nodes i ≡ Some node → KeepBounds node.shape (rows_of (meanings nodes world) i)
 
--- each constant of the items of a select is a word
-abbrev pub SelectsWords : Operator → Type 0
-SelectsWords (Relation r) = Unit {0}
-SelectsWords (Filter f) = Unit {0}
-SelectsWords (Select s) = All HasWordConstants (map item_of s.items)
-SelectsWords (Concat c) = Unit {0}
-SelectsWords (Join j) = Unit {0}
-SelectsWords (Group g) = Unit {0}
-SelectsWords (Distinct d) = Unit {0}
-
-abbrev pub AllSelectWords : List Node → Type 0
-AllSelectWords nodes = All (λ node. SelectsWords node.shape) nodes
-
 -- how many relations stand before this node: the number of the file of a relation
 abbrev pub relations_before : List Node → ℕ → ℕ
 relations_before nodes i = length (relations (take i nodes))
@@ -60,6 +46,11 @@ abbrev pub NodesMeanOperators : Type 0
 NodesMeanOperators = (graph : graph_content.Content) (world : List (List (List ℕ))) (i : ℕ) (node : Node) → IsNodeOver graph world i node
     → rows_of (meanings graph.nodes world) i ≡ node_rows node.shape (rows_of world (relations_before graph.nodes i)) (take i (meanings graph.nodes world))
 
+-- a node's operator fits the widths of the earlier nodes, over any files of which the first is as wide as a relation
+abbrev pub NodesFitEarlier : Type 0
+NodesFitEarlier = (graph : graph_content.Content) (i : ℕ) (node : Node) (files : List (List (List ℕ))) → IsGraph graph → slice_get graph.nodes i ≡ Some node
+    → (is_relation node.shape ≡ true → FitsRelation files (length node.columns)) → FitsEarlier files (widths_before graph.nodes i) (length node.columns) node.shape
+
 -- the rows of a node are as wide as its columns
 abbrev pub NodesAreWide : Type 0
 NodesAreWide = (graph : graph_content.Content) (world : List (List (List ℕ))) (i : ℕ) (node : Node) → IsNodeOver graph world i node
@@ -70,7 +61,7 @@ abbrev pub NodesKeepSizes : Type 0
 NodesKeepSizes = (graph : graph_content.Content) (world : List (List (List ℕ))) (i : ℕ) (node : Node) → IsNodeOver graph world i node
     → FirstKeepBounds graph.nodes world (i + 1) → length (rows_of (meanings graph.nodes world) i) ≤ node.rows
 
--- and their words are below 2^64, where those of the world and the constants are and no earlier node breaks a bound
+-- and their words are below 2^64, where those of the world are and no earlier node breaks a bound
 abbrev pub NodesAreOfWords : Type 0
 NodesAreOfWords = (graph : graph_content.Content) (world : List (List (List ℕ))) (i : ℕ) (node : Node) → IsNodeOver graph world i node
-    → FirstKeepBounds graph.nodes world i → AllSelectWords graph.nodes → All (All IsOfWords) world → All IsOfWords (rows_of (meanings graph.nodes world) i)
+    → FirstKeepBounds graph.nodes world i → All (All IsOfWords) world → All IsOfWords (rows_of (meanings graph.nodes world) i)

@@ -1,11 +1,17 @@
 //! Laws of the rows of nodes. Each function does nothing, and its contract is the law.
 #![tactic(auto)]
 
-ghost use Rattle.plain_meaning.specs.Laws.{NodesAreOfWords, NodesAreWide, NodesKeepSizes, NodesMeanOperators};
+ghost use Rattle.plain_meaning.specs.Laws.{NodesAreOfWords, NodesAreWide, NodesFitEarlier, NodesKeepSizes, NodesMeanOperators};
 
 /// The rows of each node are those of its operator on the rows of all earlier nodes.
 pub fn nodes_mean_operators()
     ensures { NodesMeanOperators }
+{}
+
+/// The operator of each node fits the widths of the earlier nodes: its sources are there, its columns are in range, and
+/// its rows are as wide as the node's columns.
+pub fn nodes_fit_earlier()
+    ensures { NodesFitEarlier }
 {}
 
 /// The rows of each node are as wide as its columns.
@@ -18,8 +24,7 @@ pub fn nodes_keep_sizes()
     ensures { NodesKeepSizes }
 {}
 
-/// The words of each node's rows are below 2^64 where those of the files and the constants are, and no earlier node
-/// breaks a bound.
+/// The words of each node's rows are below 2^64 where those of the files are, and no earlier node breaks a bound.
 pub fn nodes_are_of_words()
     ensures { NodesAreOfWords }
 {}
