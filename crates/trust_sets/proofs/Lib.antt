@@ -3,3 +3,14 @@ pub mod Graphs
 pub mod Needs
 pub mod Within
 pub mod Unreleased
+pub mod Alike
+pub mod RowSteps
+pub mod GroupStep
+pub mod ConcatStep
+pub mod EarlierNodes
+pub mod TrustLemma
+pub mod Differences
+pub mod Walk
+pub mod NodeTables
+pub mod KnownColumns
+pub mod SameRows

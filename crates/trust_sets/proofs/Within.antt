@@ -47,6 +47,10 @@ picked_none false true r known = absurd cc
 picked_none false false true known = absurd cc
 picked_none false false false known = absurd cc
 
+-- nobody is in the empty set
+pub in_none : (party : ℕ) → has no_party party ≡ true → ⊥
+in_none party known = picked_none (nat_eq party 1) (nat_eq party 2) (nat_eq party 3) known
+
 -- a union has all
 stays : (party : ℕ) (set : Parties) (sets : List Parties) → has set party ≡ true → has (fold united_parties set sets) party ≡ true
 stays party set [] known = known
@@ -133,7 +137,7 @@ behind_within party (n ∷ nodes) earlier all =
     behind_within party nodes (earlier ++ new ∷ []) (All-append (AreWithin party) earlier (new ∷ []) all (All-cons (AreWithin party) new [] within (All-nil (AreWithin party))))
 
 column_within : (party : ℕ) (rows : Parties) (columns : List Parties) → All (Within party rows) columns → (column : ℕ) → has (get_or columns column no_party) party ≡ true → has rows party ≡ true
-column_within party rows [] all column known = absurd (picked_none (nat_eq party 1) (nat_eq party 2) (nat_eq party 3) known)
+column_within party rows [] all column known = absurd (in_none party known)
 column_within party rows (c ∷ columns) all zero known = All-head (Within party rows) c columns all known
 column_within party rows (c ∷ columns) all (suc column) known = column_within party rows columns (All-tail (Within party rows) c columns all) column known
 

@@ -1,16 +1,21 @@
 -- Laws of the sets.
-use Rattle.std.specs.Prelude.{◌≡◌, ℕ, true, List, ⊤}
+use Rattle.std.specs.Prelude.{◌≡◌, ℕ, true, List, Some, ⊤, length, take, slice_get}
 use Rattle.std.specs.List.{All}
+use Rattle.query_graph.specs.Content as graph_content
+use Rattle.query_graph.specs.IsGraph.{IsGraph}
 use Rattle.query_graph.specs.declared.node.Node.{Node}
 use Rattle.query_graph.specs.declared.operand.Item.{Item}
 use Rattle.query_graph.specs.declared.operand.Item.TheVariants as items
 use Rattle.query_graph.specs.declared.operand.Operand.{Operand}
 use Rattle.query_graph.specs.declared.operand.Operand.TheVariants as operands
 use Rattle.query_graph.specs.declared.operand.Test.{Test}
+use Rattle.query_graph.specs.declared.operator.Group.{Group}
+use Rattle.query_graph.specs.declared.operator.Join.{Join}
+use Rattle.query_graph.specs.declared.operator.Operator.TheVariants as operators
 use Rattle.query_graph.specs.declared.parties.Parties.{Parties}
 use Rattle.query_graph.specs.Parties.{has}
 use Rattle.trust_sets.specs.declared.known.Known.{Known}
-use Rattle.trust_sets.specs.Known.{column_set, distinct_set, grouped_set, item_set, joined_set, known_at, known_filter, known_nodes}
+use Rattle.trust_sets.specs.Known.{column_set, distinct_set, grouped_set, item_set, joined_set, known_at, known_filter, known_node, known_nodes}
 
 -- the party may know the rows of a node, or a column
 abbrev pub KnowsRows : ℕ → Known → Type 0
@@ -64,3 +69,21 @@ pub record WhatRowsNeed : Type 0 where
   pub joined : (party : ℕ) (left right : Known) (keys : List (ℕ × ℕ)) → has (joined_set left right keys) party ≡ true → KnowsSides party left right keys
   pub grouped : (party : ℕ) (source : Known) (keys : List ℕ) → has (grouped_set source keys) party ≡ true → KnowsParts party source (KnowsColumn party source) keys
   pub distinct : (party : ℕ) (source : Known) → has (distinct_set source) party ≡ true → KnowsParts party source (λ (set : Parties). has set party ≡ true) source.columns
+
+-- as many sets as nodes; those of a node come from its operator and those of the earlier nodes, and in a graph they
+-- have a place for each of its columns
+pub record NodesKnowFromEarlier : Type 0 where
+  pub count : (nodes : List Node) → length (known_nodes nodes) ≡ length nodes
+  pub each : (nodes : List Node) (i : ℕ) (node : Node) → slice_get nodes i ≡ Some node
+      → known_at (known_nodes nodes) i ≡ known_node node.shape (take i (known_nodes nodes))
+  pub wide : (graph : graph_content.Content) → IsGraph graph → (i : ℕ) (node : Node) → slice_get graph.nodes i ≡ Some node
+      → length (known_at (known_nodes graph.nodes) i).columns ≡ length node.columns
+
+-- in each graph who may know the rows of a join, or of a group, may know the rows of its sources and each key of each
+pub record KeysAreKnown : Type 0 where
+  pub joined : (graph : graph_content.Content) → IsGraph graph → (party i : ℕ) (node : Node) (j : Join) → slice_get graph.nodes i ≡ Some node → node.shape ≡ operators.Join j
+      → KnowsRows party (known_at (known_nodes graph.nodes) i)
+      → KnowsSides party (known_at (known_nodes graph.nodes) j.left) (known_at (known_nodes graph.nodes) j.right) j.keys
+  pub grouped : (graph : graph_content.Content) → IsGraph graph → (party i : ℕ) (node : Node) (g : Group) → slice_get graph.nodes i ≡ Some node → node.shape ≡ operators.Group g
+      → KnowsRows party (known_at (known_nodes graph.nodes) i)
+      → KnowsParts party (known_at (known_nodes graph.nodes) g.source) (KnowsColumn party (known_at (known_nodes graph.nodes) g.source)) g.keys

@@ -4,3 +4,6 @@ pub mod Trust
 pub mod Faults
 pub mod Laws
 pub mod Under
+pub mod Agreement
+pub mod Steps
+pub mod Differs

@@ -1,7 +1,8 @@
 //! Laws of the sets. Each function does nothing, and its contract is the law.
 #![tactic(auto)]
 
-ghost use Rattle.trust_sets.specs.Laws.{ColumnsWithinRows, WhatRowsNeed};
+ghost use Rattle.trust_sets.specs.Laws.{ColumnsWithinRows, KeysAreKnown, NodesKnowFromEarlier, WhatRowsNeed};
+ghost use Rattle.trust_sets.specs.Steps.{TrustLemma, TrustSteps};
 ghost use Rattle.trust_sets.specs.Under.{WithheldIsFirst};
 
 /// Who may know the rows of an operator, or a column of a select, may know the rows of its sources and the columns
@@ -22,4 +23,33 @@ pub fn columns_within_rows()
 #[tactic(auto, using(crate::proofs::Unreleased::withheld_is_first))]
 pub fn withheld_is_first()
     ensures { WithheldIsFirst }
+{}
+
+/// The sets of a node come from its operator and the sets of the earlier nodes, and in a graph they have a place for
+/// each of the node's columns.
+#[tactic(auto, using(crate::proofs::EarlierNodes::nodes_know_from_earlier))]
+pub fn nodes_know_from_earlier()
+    ensures { NodesKnowFromEarlier }
+{}
+
+/// Who may know the rows of a join, or of a group, of a graph may know each key of each source.
+#[tactic(auto, using(crate::proofs::EarlierNodes::keys_are_known))]
+pub fn keys_are_known()
+    ensures { KeysAreKnown }
+{}
+
+/// Each operator on rows, also on parts of a node's: where a party may know the new rows, and the sources that it may
+/// know are for it the same bags, so are the results. What the party may know of two lists of rows is their bag, cut to
+/// the columns that it may know.
+#[tactic(auto, using(crate::proofs::TrustLemma::trust_steps))]
+pub fn trust_steps()
+    ensures { TrustSteps }
+{}
+
+/// The trust lemma: in two worlds whose files agree for a party, each node whose rows it may know has the same bag of
+/// rows, cut to the columns that it may know. So whatever the party doesn't know of the files changes nothing that it
+/// may know of any node.
+#[tactic(auto, using(crate::proofs::TrustLemma::trust_lemma))]
+pub fn trust_lemma()
+    ensures { TrustLemma }
 {}

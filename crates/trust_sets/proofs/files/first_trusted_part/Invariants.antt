@@ -1,0 +1,6 @@
+use Rattle.trust_sets.specs.Agreement.{TrustedPartAgrees}
+use Rattle.trust_sets.proofs.Walk.{Walked}
+use Rattle.trust_sets.proofs.files.first_trusted_part.Given as goal
+
+abbrev pub invariant-loop-number : goal.invariant-loop-number
+invariant-loop-number l = Walked l.nodes (TrustedPartAgrees l.nodes l.trust.known l.party l.world l.other) l.number l.file

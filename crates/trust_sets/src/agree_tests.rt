@@ -1,0 +1,166 @@
+//! Two worlds of the credit study, compared for the party that joins.
+ghost use Rattle.std.specs.Prelude.{◌≡◌, true, IfOk};
+ghost use Rattle.plain_meaning.specs.Fits.{IsWorldOf};
+ghost use Rattle.trust_sets.specs.Differs.{IsWithinBounds};
+
+use crate::*;
+use plain_meaning::{World, plain};
+use query_graph::{Flag, Graph, Node, build};
+use query_text::read_query;
+use std::alloc::{AllocError, Global};
+use std::test::Fail;
+use tables::Table;
+
+const CREDIT: &[u8] = b"relation people of 1 rows 4 (ssn num, zip num)
+relation scores2 of 2 rows 3 (ssn num trust 1, score num)
+relation scores3 of 3 rows 3 (ssn num trust 1, score num)
+scores = concat scores2 scores3
+joined = join people scores on ssn at most 6
+byzip = group joined by zip (total = sum score, n = count)
+output byzip to 1";
+
+const PEOPLE: &[&[u64]] = &[&[100, 2139], &[101, 2139], &[102, 94110], &[103, 10001]];
+
+const SCORES2: &[&[u64]] = &[&[100, 700], &[101, 650], &[102, 600]];
+
+const SCORES3: &[&[u64]] = &[&[100, 710], &[102, 640], &[999, 500]];
+
+fn file_of(alloc: Global, node: &Node, rows: &[&[u64]]) -> Result<Table, AllocError> {
+    let mut columns = Vec::new(alloc);
+    for column in node.columns.as_slice() {
+        columns.push(column.clone()?)?;
+    }
+    let mut table = Table::new(alloc, columns);
+    for row in rows {
+        if row.len() == table.columns().len() {
+            table.push(row)?;
+        }
+    }
+    Ok(table)
+}
+
+// The world of these files, those of the first nodes.
+fn files_world(alloc: Global, graph: &Graph, files: &[&[&[u64]]]) -> Result<World, Fail>
+    ensures { IfOk result (λ world. IsWorldOf graph.now.nodes world) }
+{
+    let mut tables = Vec::new(alloc);
+    for (node, rows) in graph.nodes().iter().zip(files) {
+        tables.push(file_of(alloc, node, rows)?)?;
+    }
+    match World::new(graph, tables) {
+        Ok(world) => Ok(world),
+        Err(_) => Err("no world")?,
+    }
+}
+
+// Whether no node has more rows than its bound.
+fn is_within(alloc: Global, graph: &Graph, world: &World) -> Result<bool, AllocError>
+    requires { IsWorldOf graph.now.nodes world.now }
+    ensures { IfOk result (λ within. within ≡ true → IsWithinBounds graph.now.nodes world.now) }
+{
+    Ok(plain(alloc, graph, world)?.over.is_none())
+}
+
+// The same, if no node has more rows than its bound.
+fn world_of(alloc: Global, graph: &Graph, files: &[&[&[u64]]]) -> Result<World, Fail>
+    ensures fits { IfOk result (λ world. IsWorldOf graph.now.nodes world) }
+    ensures within { IfOk result (λ world. IsWithinBounds graph.now.nodes world) }
+{
+    let world = files_world(alloc, graph, files)?;
+    if is_within(alloc, graph, &world)? {
+        Ok(world)
+    } else {
+        Err("a node is over its bound")?
+    }
+}
+
+// How the study differs for party 1 in a world of other files.
+fn difference(
+    alloc: Global,
+    files: &[&[&[u64]]],
+    excess: Option<Flag>,
+    other_excess: Option<Flag>,
+) -> Result<Option<Differs>, Fail> {
+    let graph = build(alloc, &read_query(alloc, CREDIT)?)?;
+    let trust = derive_trust(alloc, &graph)?;
+    let world = world_of(alloc, &graph, &[PEOPLE, SCORES2, SCORES3])?;
+    let other = world_of(alloc, &graph, files)?;
+    Ok(agree(
+        alloc,
+        &graph,
+        &trust,
+        1,
+        &world,
+        &other,
+        excess,
+        other_excess,
+    )?)
+}
+
+#[test]
+fn tells_the_first_part_that_differs(rt: HostRuntime) -> Result<(), Fail> {
+    let flag = Flag {
+        node: 4,
+        party: 1,
+        of_parts: false,
+    };
+    let over = Some(flag);
+    let other_people: &[&[u64]] = &[&[101, 2139], &[100, 2139], &[102, 94110], &[103, 10001]];
+    let reordered: &[&[u64]] = &[&[102, 600], &[100, 700], &[101, 650]];
+    let other_ssn: &[&[u64]] = &[&[100, 700], &[105, 650], &[102, 600]];
+    let other_score: &[&[u64]] = &[&[100, 700], &[101, 651], &[102, 600]];
+    let unused_score: &[&[u64]] = &[&[100, 710], &[102, 640], &[999, 501]];
+    let twice: &[&[u64]] = &[&[100, 710], &[102, 640], &[102, 500]];
+    let cases: [([&[&[u64]]; 3], Option<Flag>, Option<Flag>, Option<Differs>); 10] = [
+        ([PEOPLE, reordered, SCORES3], None, None, None),
+        ([PEOPLE, SCORES2, unused_score], None, None, None),
+        (
+            [other_people, other_ssn, SCORES3],
+            None,
+            over,
+            Some(Differs::OwnFile { relation: 0 }),
+        ),
+        (
+            [PEOPLE, other_ssn, twice],
+            None,
+            over,
+            Some(Differs::Trusted { relation: 1 }),
+        ),
+        (
+            [PEOPLE, SCORES2, twice],
+            None,
+            None,
+            Some(Differs::Trusted { relation: 2 }),
+        ),
+        (
+            [PEOPLE, other_score, SCORES3],
+            None,
+            None,
+            Some(Differs::Answer { output: 5 }),
+        ),
+        ([PEOPLE, other_score, SCORES3], over, over, None),
+        (
+            [PEOPLE, other_score, SCORES3],
+            None,
+            over,
+            Some(Differs::Excess {
+                first: None,
+                second: over,
+            }),
+        ),
+        (
+            [PEOPLE, SCORES2, SCORES3],
+            over,
+            None,
+            Some(Differs::Excess {
+                first: over,
+                second: None,
+            }),
+        ),
+        ([PEOPLE, SCORES2, SCORES3], None, None, None),
+    ];
+    for (files, excess, other_excess, want) in cases {
+        assert_eq!(rt; difference(rt.alloc(), &files, excess, other_excess)?, want);
+    }
+    Ok(())
+}

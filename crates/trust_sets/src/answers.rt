@@ -1,0 +1,87 @@
+//! What a party gets in two worlds.
+#![tactic(auto)]
+
+ghost use Rattle.std.specs.Prelude.{◌≡◌, ◌<◌, ◌↔◌, true, length, take, IsTrue, IfOk};
+ghost use Rattle.bags.specs.Bag.{SameBag};
+ghost use Rattle.query_graph.specs.Parties.{has};
+ghost use Rattle.plain_operators.specs.Rows.{lent};
+ghost use Rattle.plain_meaning.specs.Fits.{IsWorldOf};
+ghost use Rattle.plain_meaning.specs.Meaning.{meanings};
+ghost use Rattle.plain_meaning.specs.Plain.{rows_in, rows_of_tables};
+ghost use Rattle.trust_sets.specs.Differs.{FirstAnswer, IsWithinBounds};
+
+use crate::cut_rows::same_bag;
+use plain_meaning::{World, plain};
+use query_graph::{Graph, Output};
+use query_text::Sequence;
+use std::alloc::{AllocError, Global};
+use tables::Table;
+
+// The tables of all nodes.
+fn all_tables(alloc: Global, graph: &Graph, world: &World) -> Result<Sequence<Table>, AllocError>
+    requires world { IsWorldOf graph.now.nodes world.now }
+    requires within { IsWithinBounds graph.now.nodes world.now }
+    ensures count { IfOk result (λ tables. length tables ≡ length graph.now.nodes) }
+    ensures rows { IfOk result (λ tables. rows_of_tables tables
+        ≡ take (length graph.now.nodes) (meanings graph.now.nodes world.now)) }
+{
+    Ok(plain(alloc, graph, world)?.tables)
+}
+
+// The rows of a table, lent.
+fn lent_rows(alloc: Global, table: &Table) -> Result<Vec<&[u64]>, AllocError>
+    ensures { IfOk result (λ rows. lent rows.items ≡ table.now.rows) }
+{
+    let mut rows = Vec::new(alloc);
+    for index in 0..table.rows() {
+        rows.push(table.row(index))?;
+    }
+    Ok(rows)
+}
+
+// Whether what the party gets of an output is the same bag of rows.
+fn answer_agrees(
+    alloc: Global,
+    output: &Output,
+    party: u8,
+    tables: &[Table],
+    others: &[Table],
+) -> Result<bool, AllocError>
+    requires tables { output.now.node < length tables.now }
+    requires others { output.now.node < length others.now }
+    ensures { IfOk result (λ same. IsTrue same ↔ (has output.now.recipients party ≡ true
+        → SameBag (rows_in tables.now output.now.node) (rows_in others.now output.now.node))) }
+{
+    if !output.recipients.contains(party) {
+        return Ok(true);
+    }
+    let node = output.node as usize;
+    let left = lent_rows(alloc, &tables[node])?;
+    let right = lent_rows(alloc, &others[node])?;
+    Ok(same_bag(left, right))
+}
+
+// The node of the first output that the party gets differently.
+pub(crate) fn first_answer(
+    alloc: Global,
+    graph: &Graph,
+    party: u8,
+    world: &World,
+    other: &World,
+) -> Result<Option<u32>, AllocError>
+    requires world { IsWorldOf graph.now.nodes world.now }
+    requires other { IsWorldOf graph.now.nodes other.now }
+    requires within { IsWithinBounds graph.now.nodes world.now }
+    requires other_within { IsWithinBounds graph.now.nodes other.now }
+    ensures { IfOk result (λ first. FirstAnswer graph.now party world.now other.now first) }
+{
+    let tables = all_tables(alloc, graph, world)?;
+    let others = all_tables(alloc, graph, other)?;
+    for output in graph.outputs() {
+        let agrees = answer_agrees(alloc, output, party, tables.as_slice(), others.as_slice())?;
+        if !agrees {
+            return Ok(Some(output.node));
+        }
+    }
+    Ok(None)
+}
