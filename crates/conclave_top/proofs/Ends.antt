@@ -1,13 +1,19 @@
 -- The ends of a command, from the last stage to the first.
-use Rattle.std.proofs.Common.{◌≡◌, ℕ, ◌≤◌, List, [], ◌∷◌, ◌++◌, Option, Some, None, ◌⊎◌, inl, inr, ap, ◌∙◌, arith, option_map, append_assoc, suc, take}
+use Rattle.std.proofs.Common.{◌≡◌, ℕ, ◌≤◌, List, [], ◌∷◌, ◌++◌, Option, Some, None, Err, ◌⊎◌, inl, inr, refl, ap, sym, subst, ◌∙◌, arith, option_map, append_assoc, suc, take}
 use Rattle.outside.specs.Cause.{Rose}
 use Rattle.conclave_top.specs.declared.end.End.{End}
 use Rattle.conclave_top.specs.declared.end.End.TheVariants.{Done, Usage, Refused, Faulty, Outside, Memory}
 use Rattle.conclave_top.specs.End.{Ended}
-use Rattle.conclave_top.specs.Compile.{IsCompiled}
-use Rattle.conclave_top.specs.Plain.{Verdict, refuses, faults, prints, Called, CalledFront, IsDue, IsDueOver, verdict_of}
+use Rattle.conclave_top.specs.Bounds.{first_bound}
+use Rattle.conclave_top.specs.Calls.{Called, CalledFront}
+use Rattle.conclave_top.specs.Command.{Command, plain, query_of}
+use Rattle.conclave_top.specs.Compile.{CompilesFile, HasGraph}
+use Rattle.conclave_top.specs.Due.{IsDue, IsDueOn}
+use Rattle.conclave_top.specs.Lines.{not_built}
+use Rattle.conclave_top.specs.Plain.{IsDueFor, IsDueOver, verdict_of}
 use Rattle.conclave_top.specs.Relations.{AreHeld, files_of}
-use Rattle.outside.specs.Folder.{Files, Holds}
+use Rattle.conclave_top.specs.Verdict.{Verdict, refuses, faults, prints}
+use Rattle.outside.specs.Folder.{Files}
 use Rattle.query_graph.specs.Content.{Content}
 
 -- a count that rose from a later moment rose from an earlier one
@@ -41,12 +47,32 @@ pub ended_over_graph : (files : Option Files) (graph : Content) (bytes : List (L
 ended_over_graph files graph bytes before after risen wider end held later ends =
     ended_within (λ verdict. verdict ≡ verdict_of graph bytes) (IsDueOver files graph) before after risen wider end (λ verdict is. record { bytes = bytes; held = held; is = is }) later ends
 
--- and that is the end of the query
-pub ended_over_text : (files : Option Files) (query text : List ℕ) (graph : Content) (before after : Option (List ℕ)) (risen wider : Type 0) (end : End)
-    → Holds files query text → IsCompiled text graph → (risen → wider) → Ended (IsDueOver files graph) before after risen end → Ended (IsDue files query) before after wider end
-ended_over_text files query text graph before after risen wider end held compiled later ends =
-    ended_within (IsDueOver files graph) (IsDue files query) before after risen wider end
-    (λ verdict over. record { text = text; held = held; due = inr (record { graph = graph; compiled = compiled; over = over }) }) later ends
+-- what is due on the graph of a command's query is the end of the command
+pub ended_on : (files : Option Files) (command : Command) (graph : Content) (before after : Option (List ℕ)) (risen wider : Type 0) (end : End)
+    → HasGraph files (query_of command) graph → (risen → wider) → Ended (IsDueOn files command graph) before after risen end → Ended (IsDue files command) before after wider end
+ended_on files command graph before after risen wider end has later ends =
+    ended_within (IsDueOn files command graph) (IsDue files command) before after risen wider end (λ verdict due. inr (record { graph = graph; has = has; due = due })) later ends
+
+-- and so is the end without a graph
+pub ended_early : (files : Option Files) (command : Command) (taken : Option (List ℕ)) (risen wider : Type 0) (end : End)
+    → (risen → wider) → CompilesFile files (query_of command) risen (Err end) → Ended (IsDue files command) taken taken wider end
+ended_early files command taken risen wider Done later stops = absurd stops
+ended_early files command taken risen wider Usage later stops = absurd stops
+ended_early files command taken risen wider (Refused line) later stops = (inl (record { line = line.items; has = stops; is = refl }), refl)
+ended_early files command taken risen wider (Faulty line) later stops = absurd stops
+ended_early files command taken risen wider Outside later stops = (later stops, refl)
+ended_early files command taken risen wider Memory later stops = refl
+
+-- `plain` on a graph with a bound, and on one without
+pub ended_bounded : (files : Option Files) (query : List ℕ) (graph : Content) (line : ℕ) (taken : Option (List ℕ)) (wider : Type 0) (end : End)
+    → HasGraph files query graph → first_bound graph.nodes ≡ Some line → Ended (λ verdict. verdict ≡ refuses (not_built line)) taken taken ⊥ end → Ended (IsDue files (plain query)) taken taken wider end
+ended_bounded files query graph line taken wider end has bound ends =
+    ended_on files (plain query) graph taken taken ⊥ wider end has (λ no. absurd no) (subst (λ o. Ended (IsDueFor files graph o) taken taken ⊥ end) (sym bound) ends)
+
+pub ended_unbounded : (files : Option Files) (query : List ℕ) (graph : Content) (before after : Option (List ℕ)) (risen wider : Type 0) (end : End)
+    → HasGraph files query graph → first_bound graph.nodes ≡ None → (risen → wider) → Ended (IsDueOver files graph) before after risen end → Ended (IsDue files (plain query)) before after wider end
+ended_unbounded files query graph before after risen wider end has none later ends =
+    ended_on files (plain query) graph before after risen wider end has later (subst (λ o. Ended (IsDueFor files graph o) before after risen end) (sym none) ends)
 
 -- a name called, and then the first of others
 pub front_then : (name : List ℕ) (names : List (List ℕ)) (before between after : Option (List (List ℕ)))

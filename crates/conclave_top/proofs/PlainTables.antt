@@ -21,7 +21,7 @@ use Rattle.plain_meaning.specs.Fits.{IsFileOf}
 use Rattle.plain_meaning.specs.Meaning.{files_after, meanings, meanings_after, node_rows, rows_of}
 use Rattle.plain_meaning.specs.Plain.{Ends, IsPlain, bound_of, is_over}
 use Rattle.conclave_top.specs.Answers.{AreNodeTables}
-use Rattle.conclave_top.specs.Compile.{first_bound, is_bounded, is_written}
+use Rattle.conclave_top.specs.Bounds.{first_bound, is_bounded, is_written}
 use Rattle.conclave_top.specs.Relations.{or_line, tables_of}
 
 zero_is_not_suc : (n : ℕ) → 0 ≡ suc n → ⊥

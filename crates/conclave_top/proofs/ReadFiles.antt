@@ -5,7 +5,7 @@ use Rattle.std.proofs.lemmas.List.{append-nil, get_or-map, length-map, map_push}
 use Rattle.outside.specs.Folder.{Files, Holds, called}
 use Rattle.outside.specs.declared.folder.FolderFault.{FolderFault}
 use Rattle.outside.specs.declared.folder.FolderFault.TheVariants.{Failed, Memory}
-use Rattle.conclave_top.specs.Plain.{Called, CalledFront}
+use Rattle.conclave_top.specs.Calls.{Called, CalledFront}
 use Rattle.conclave_top.specs.Relations.{AreHeld}
 use Rattle.conclave_top.proofs.Ends.{called_then}
 

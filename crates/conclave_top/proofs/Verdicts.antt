@@ -7,11 +7,15 @@ use Rattle.query_text.specs.declared.statement.Statement.{Statement}
 use Rattle.query_graph.specs.Build.{graph_of}
 use Rattle.query_graph.specs.Content.{Content}
 use Rattle.query_graph.specs.declared.fault.GraphFault.{GraphFault}
-use Rattle.conclave_top.specs.Compile.{IsCompiled, IsRefused, graph_refusal, refusal_of}
+use Rattle.conclave_top.specs.Bounds.{first_bound}
+use Rattle.conclave_top.specs.Command.{Command, plain, plan, query_of}
+use Rattle.conclave_top.specs.Compile.{HasGraph, HasRefusal, IsCompiled, IsRefused, graph_refusal, refusal_of}
+use Rattle.conclave_top.specs.Due.{IsDueOn}
 use Rattle.conclave_top.specs.Laws.{OneVerdict, SomeVerdict}
-use Rattle.conclave_top.specs.Lines.{graph_refused, text_refused}
-use Rattle.conclave_top.specs.Plain.{Verdict, refuses, IsDueOver, IsDueText, verdict_of}
+use Rattle.conclave_top.specs.Lines.{graph_refused, not_built, text_refused}
+use Rattle.conclave_top.specs.Plain.{IsDueFor, IsDueOver, IsPlainDue, verdict_of}
 use Rattle.conclave_top.specs.Relations.{files_of}
+use Rattle.conclave_top.specs.Verdict.{Verdict, refuses}
 
 same_of_some : {A : Type 0} (x y : A) → Some x ≡ Some y → x ≡ y
 same_of_some x y same = cc
@@ -57,21 +61,39 @@ same_graph reading text graph other a b =
     same_of_ok graph other (graph_of b.statements) (sym (ap graph_of same) ∙ a.built) b.built
 
 -- over one graph one verdict is due
-same_over : (files : Files) (graph other : Content) (first second : Verdict) → graph ≡ other → IsDueOver (Some files) graph first → IsDueOver (Some files) other second → first ≡ second
-same_over files graph other first second same a b =
-    let bytes : a.bytes ≡ b.bytes = same_of_somes a.bytes b.bytes (sym a.held ∙ ap (λ (g : Content). map files (files_of g.nodes)) same ∙ b.held) in
-    a.is ∙ ap (λ g. verdict_of g a.bytes) same ∙ ap (verdict_of other) bytes ∙ sym b.is
+same_over : (files : Files) (graph : Content) (first second : Verdict) → IsDueOver (Some files) graph first → IsDueOver (Some files) graph second → first ≡ second
+same_over files graph first second a b =
+    let bytes : a.bytes ≡ b.bytes = same_of_somes a.bytes b.bytes (sym a.held ∙ b.held) in
+    a.is ∙ ap (verdict_of graph) bytes ∙ sym b.is
 
-same_verdict : HasOneReading → (files : Files) (text : List ℕ) (first second : Verdict) → IsDueText (Some files) text first → IsDueText (Some files) text second → first ≡ second
-same_verdict reading files text first second (inl a) (inl b) = a.is ∙ ap refuses (same_refusal reading text a.line b.line a.refused b.refused) ∙ sym b.is
-same_verdict reading files text first second (inl a) (inr b) = absurd (not_both reading text a.line b.graph a.refused b.compiled)
-same_verdict reading files text first second (inr a) (inl b) = absurd (not_both reading text b.line a.graph b.refused a.compiled)
-same_verdict reading files text first second (inr a) (inr b) = same_over files a.graph b.graph first second (same_graph reading text a.graph b.graph a.compiled b.compiled) a.over b.over
+same_for : (files : Files) (graph : Content) (bound : Option ℕ) (first second : Verdict) → IsDueFor (Some files) graph bound first → IsDueFor (Some files) graph bound second → first ≡ second
+same_for files graph (Some line) first second a b = a ∙ sym b
+same_for files graph None first second a b = same_over files graph first second a b
+
+same_on : (files : Files) (command : Command) (graph : Content) (first second : Verdict) → IsDueOn (Some files) command graph first → IsDueOn (Some files) command graph second → first ≡ second
+same_on files (plain query) graph first second a b = same_for files graph (first_bound graph.nodes) first second a b
+same_on files (plan query) graph first second a b = a ∙ sym b
+
+-- a file has one text
+same_text : (files : Files) (query text other : List ℕ) → files query ≡ Some text → files query ≡ Some other → text ≡ other
+same_text files query text other first second = same_of_some text other (sym first ∙ second)
+
+has_refusal : (files : Files) (query line text : List ℕ) → (has : HasRefusal (Some files) query line) → files query ≡ Some text → IsRefused text line
+has_refusal files query line text has held = subst (λ t. IsRefused t line) (same_text files query has.text text has.held held) has.refused
+
+has_graph : (files : Files) (query text : List ℕ) (graph : Content) → (has : HasGraph (Some files) query graph) → files query ≡ Some text → IsCompiled text graph
+has_graph files query text graph has held = subst (λ t. IsCompiled t graph) (same_text files query has.text text has.held held) has.compiled
 
 pub one_verdict : HasOneReading → OneVerdict
-one_verdict reading files query first second a b =
-    let same : a.text ≡ b.text = same_of_some a.text b.text (sym a.held ∙ b.held) in
-    same_verdict reading files b.text first second (subst (λ t. IsDueText (Some files) t first) same a.due) b.due
+one_verdict reading files command first second (inl a) (inl b) =
+    a.is ∙ ap refuses (same_refusal reading b.has.text a.line b.line (has_refusal files (query_of command) a.line b.has.text a.has b.has.held) b.has.refused) ∙ sym b.is
+one_verdict reading files command first second (inl a) (inr b) =
+    absurd (not_both reading b.has.text a.line b.graph (has_refusal files (query_of command) a.line b.has.text a.has b.has.held) b.has.compiled)
+one_verdict reading files command first second (inr a) (inl b) =
+    absurd (not_both reading a.has.text b.line a.graph (has_refusal files (query_of command) b.line a.has.text b.has a.has.held) a.has.compiled)
+one_verdict reading files command first second (inr a) (inr b) =
+    let same : a.graph ≡ b.graph = same_graph reading b.has.text a.graph b.graph (has_graph files (query_of command) b.has.text a.graph a.has b.has.held) b.has.compiled in
+    same_on files command b.graph first second (subst (λ g. IsDueOn (Some files) command g first) same a.due) b.due
 
 each_graph : (statements : List Statement) (graph : Content) → graph_of statements ≡ Ok graph → (refusal : Option (List ℕ)) → graph_refusal graph ≡ refusal
     → ((line : List ℕ) × (refusal_of (graph_of statements) ≡ Some line)) ⊎ ((graph : Content) × (graph_of statements ≡ Ok graph) × (refusal_of (graph_of statements) ≡ None))
@@ -96,10 +118,20 @@ of_reading : (text : List ℕ) → ((q : List Statement) × IsQuery text q) ⊎ 
 of_reading text (inl q) = of_query text q.0 q.1 (each_query q.0 (graph_of q.0) refl)
 of_reading text (inr f) = inl (text_refused f.0 f.1, inl (record { line = f.0; column = f.1; fault = f.2; says = refl }))
 
+due_bounded : (files : Files) (graph : Content) (line : ℕ) → first_bound graph.nodes ≡ Some line → IsPlainDue (Some files) graph (refuses (not_built line))
+due_bounded files graph line bound = subst (λ o. IsDueFor (Some files) graph o (refuses (not_built line))) (sym bound) refl
+
+due_answered : (files : Files) (graph : Content) (bytes : List (List ℕ)) → first_bound graph.nodes ≡ None → map files (files_of graph.nodes) ≡ map Some bytes → IsPlainDue (Some files) graph (verdict_of graph bytes)
+due_answered files graph bytes none all =
+    subst (λ o. IsDueFor (Some files) graph o (verdict_of graph bytes)) (sym none) (record { bytes = bytes; held = all; is = refl })
+
 pub some_verdict : HasOneReading → SomeVerdict
 some_verdict reading = record {
-  refused = λ files query text line held refused. record { text = text; held = held; due = inl (record { line = line; refused = refused; is = refl }) };
-  compiled = λ files query text graph bytes held compiled all.
-      record { text = text; held = held; due = inr (record { graph = graph; compiled = compiled; over = record { bytes = bytes; held = all; is = refl } }) };
+  refused = λ files command text line held refused. inl (record { line = line; has = record { text = text; held = held; refused = refused }; is = refl });
+  planned = λ files query text graph held compiled. inr (record { graph = graph; has = record { text = text; held = held; compiled = compiled }; due = refl });
+  bounded = λ files query text graph line held compiled bound.
+      inr (record { graph = graph; has = record { text = text; held = held; compiled = compiled }; due = due_bounded files graph line bound });
+  answered = λ files query text graph bytes held compiled none all.
+      inr (record { graph = graph; has = record { text = text; held = held; compiled = compiled }; due = due_answered files graph bytes none all });
   each = λ text. of_reading text (reading text).0;
 }

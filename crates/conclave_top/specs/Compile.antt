@@ -1,42 +1,22 @@
 -- Which texts are compiled to a graph, and with which line another text is refused.
-use Rattle.std.specs.Prelude.{◌≡◌, ℕ, Bool, true, false, ◌||◌, List, [], ◌∷◌, Option, Some, None, Result, Ok, Err, if◌then◌else◌, option_map, ◌⊎◌, ⊤}
+use Rattle.std.specs.Prelude.{◌≡◌, ℕ, List, Option, Some, None, Result, Ok, Err, option_map, ◌⊎◌, ⊤}
+use Rattle.outside.specs.Folder.{Files, Holds}
 use Rattle.query_text.specs.Text.{IsFaultAt, IsQuery}
 use Rattle.query_text.specs.declared.statement.Statement.{Statement}
 use Rattle.query_graph.specs.Build.{graph_of}
 use Rattle.query_graph.specs.Content.{Content}
 use Rattle.query_graph.specs.declared.fault.GraphFault.{GraphFault}
-use Rattle.query_graph.specs.declared.node.Node.{Node}
-use Rattle.query_graph.specs.declared.operator.Operator.{Operator}
-use Rattle.query_graph.specs.declared.operator.Operator.TheVariants as operators
-use Rattle.conclave_top.specs.declared.compile.Stop.{Stop}
-use Rattle.conclave_top.specs.declared.compile.Stop.TheVariants.{Refused, Memory}
 use Rattle.trust_sets.specs.Faults.{first_fault}
 use Rattle.trust_sets.specs.Trust.{trust_of}
-use Rattle.conclave_top.specs.Lines.{graph_refused, not_built, text_refused, trust_refused}
-use Rattle.std.specs.Option.{option_or}
+use Rattle.conclave_top.specs.declared.compile.Stop.{Stop}
+use Rattle.conclave_top.specs.declared.compile.Stop.TheVariants.{Refused, Memory}
+use Rattle.conclave_top.specs.declared.end.End.{End}
+use Rattle.conclave_top.specs.declared.end.End.TheVariants as ends
+use Rattle.conclave_top.specs.Lines.{graph_refused, text_refused, trust_refused}
 
-abbrev pub is_written : {A : Type 0} → Option A → Bool
-is_written None = false
-is_written (Some x) = true
-
--- a bound is written on the operator
-abbrev pub is_bounded : Operator → Bool
-is_bounded (operators.Relation r) = false
-is_bounded (operators.Filter f) = is_written f.at_most
-is_bounded (operators.Select s) = false
-is_bounded (operators.Concat c) = false
-is_bounded (operators.Join j) = is_written j.at_most
-is_bounded (operators.Group g) = is_written g.parts_at_most || is_written g.at_most
-is_bounded (operators.Distinct d) = is_written d.at_most
-
--- the line of the first node with a bound
-abbrev pub first_bound : List Node → Option ℕ
-first_bound [] = None
-first_bound (node ∷ nodes) = if is_bounded node.shape then Some node.line else first_bound nodes
-
--- the line of the refusal of a graph: by trust or release, or for the first bound
+-- the line of the refusal of a graph, by trust or release
 abbrev pub graph_refusal : Content → Option (List ℕ)
-graph_refusal graph = option_or (option_map (trust_refused graph.nodes) (first_fault graph (trust_of graph.nodes))) (option_map not_built (first_bound graph.nodes))
+graph_refusal graph = option_map (trust_refused graph.nodes) (first_fault graph (trust_of graph.nodes))
 
 -- the line of the refusal of a query, by what its statements give: a rule that they break, or that of their graph
 abbrev pub refusal_of : Result Content GraphFault → Option (List ℕ)
@@ -82,3 +62,25 @@ abbrev pub Compiles : List ℕ → Result Content Stop → Type 0
 Compiles text (Ok graph) = IsCompiled text graph
 Compiles text (Err (Refused line)) = IsRefused text line.items
 Compiles text (Err Memory) = ⊤
+
+-- the file of this name has a text with this graph
+pub record HasGraph (files : Option Files) (query : List ℕ) (graph : Content) : Type 0 where
+  pub text : List ℕ
+  pub held : Holds files query text
+  pub compiled : IsCompiled text graph
+
+-- the file of this name has a text that is refused with this line
+pub record HasRefusal (files : Option Files) (query refusal : List ℕ) : Type 0 where
+  pub text : List ℕ
+  pub held : Holds files query text
+  pub refused : IsRefused text refusal
+
+-- what compiling the text of a file gives, or how the command ends
+abbrev pub CompilesFile : Option Files → List ℕ → Type 0 → Result Content End → Type 0
+CompilesFile files query risen (Ok graph) = HasGraph files query graph
+CompilesFile files query risen (Err ends.Done) = ⊥
+CompilesFile files query risen (Err ends.Usage) = ⊥
+CompilesFile files query risen (Err (ends.Refused line)) = HasRefusal files query line.items
+CompilesFile files query risen (Err (ends.Faulty line)) = ⊥
+CompilesFile files query risen (Err ends.Outside) = risen
+CompilesFile files query risen (Err ends.Memory) = ⊤

@@ -1,6 +1,9 @@
 pub mod Answers
+pub mod Bounds
+pub mod Calls
 pub mod Command
 pub mod Compile
+pub mod Due
 pub mod End
 pub mod Finish
 pub mod Laws
@@ -8,4 +11,6 @@ pub mod Lines
 pub mod Outcome
 pub mod Outside
 pub mod Plain
+pub mod PlanText
 pub mod Relations
+pub mod Verdict

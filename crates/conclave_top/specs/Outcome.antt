@@ -1,9 +1,11 @@
 -- What each status says.
 use Rattle.std.specs.Prelude.{◌≡◌, ℕ, List, Option, Some, None, ◌⊎◌}
-use Rattle.conclave_top.specs.Command.{Command, plain, command_of}
+use Rattle.conclave_top.specs.Calls.{CommandCalls}
+use Rattle.conclave_top.specs.Command.{Command, command_of}
+use Rattle.conclave_top.specs.Due.{IsDue}
 use Rattle.conclave_top.specs.Lines.{memory_line, outside_line, usage_line}
 use Rattle.conclave_top.specs.Outside.{Outside, gained, HasFailed, Tells}
-use Rattle.conclave_top.specs.Plain.{Verdict, refuses, faults, prints, IsDue, PlainCalls}
+use Rattle.conclave_top.specs.Verdict.{Verdict, refuses, faults, prints}
 
 -- 0: this was written to the output, and nothing to the stream for errors
 pub record IsDone (output : List ℕ) (old new : Outside) (status : ℕ) : Type 0 where
@@ -34,25 +36,25 @@ Settles (refuses line) old new status = IsRefused 2 line old new status
 Settles (faults line) old new status = IsRefused 3 line old new status
 Settles (prints output) old new status = IsDone output old new status
 
--- the run settled by the verdict that is due for the query over the folder's bytes
-pub record PlainIsSettled (query : List ℕ) (old new : Outside) (status : ℕ) : Type 0 where
+-- the run settled by the verdict that is due for the command over the folder's bytes
+pub record IsSettled (command : Command) (old new : Outside) (status : ℕ) : Type 0 where
   pub verdict : Verdict
-  pub due : IsDue old.files query verdict
+  pub due : IsDue old.files command verdict
   pub settles : Settles verdict old new status
 
--- the outcomes of `plain`
-abbrev pub PlainOutcome : List ℕ → Outside → Outside → ℕ → Type 0
-PlainOutcome query old new status = PlainIsSettled query old new status ⊎ (IsFailed old new status ⊎ IsOutOfMemory old new status)
+-- the outcomes of a command
+abbrev pub CommandOutcome : Command → Outside → Outside → ℕ → Type 0
+CommandOutcome command old new status = IsSettled command old new status ⊎ (IsFailed old new status ⊎ IsOutOfMemory old new status)
 
 -- the outcomes of a command line, by the form that it is
 abbrev pub OutcomeOf : Option Command → Outside → Outside → ℕ → Type 0
 OutcomeOf None old new status = IsRefused 1 usage_line old new status ⊎ IsOutOfMemory old new status
-OutcomeOf (Some (plain query)) old new status = PlainOutcome query old new status
+OutcomeOf (Some command) old new status = CommandOutcome command old new status
 
 -- the names that a command line calls, in order, or the first of them
 abbrev pub CallsOf : Option Command → Outside → Outside → Type 0
 CallsOf None old new = new.calls ≡ old.calls
-CallsOf (Some (plain query)) old new = PlainCalls old.files query old.calls new.calls
+CallsOf (Some command) old new = CommandCalls old.files command old.calls new.calls
 
 -- all that is promised of a command line's run: its outcome, the names that it called, and that the files stay as they were
 pub record Outcome (words : List (List ℕ)) (old new : Outside) (status : ℕ) : Type 0 where

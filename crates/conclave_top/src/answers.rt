@@ -3,7 +3,7 @@
 ghost use Rattle.std.specs.Prelude.{◌≡◌, ◌<◌, ◌++◌, List, ℕ, Ok, All, IfOk, OnOk, length, map, None};
 ghost use Rattle.plain_meaning.specs.Fits.{AreFiles};
 ghost use Rattle.conclave_top.specs.Answers.{AreNodeTables, answer, answers, output_text, printed};
-ghost use Rattle.conclave_top.specs.Compile.{first_bound};
+ghost use Rattle.conclave_top.specs.Bounds.{first_bound};
 
 use plain_meaning::{World, plain};
 use query_graph::{Graph, Node, Output};

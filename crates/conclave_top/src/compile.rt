@@ -1,13 +1,16 @@
 //! From a query's bytes to its graph, or to the line of its refusal.
 
-ghost use Rattle.std.specs.Prelude.{◌≡◌, IfOk, option_map};
+ghost use Rattle.std.specs.Prelude.{◌≡◌, ◌≤◌, [], ◌∷◌, IfOk, option_map};
+ghost use Rattle.outside.specs.Cause.{Rose};
 ghost use Rattle.query_graph.specs.Statements.{IsGraphOf};
+ghost use Rattle.conclave_top.specs.Calls.{Called, CalledFront};
 ghost use Rattle.conclave_top.specs.Relations.{AreNamed};
-ghost use Rattle.conclave_top.specs.Compile.{first_bound, graph_refusal, is_bounded, Compiles, CompilesGraph, CompilesQuery};
-ghost use Rattle.conclave_top.specs.Lines.{not_built};
+ghost use Rattle.conclave_top.specs.Compile.{graph_refusal, Compiles, CompilesFile, CompilesGraph, CompilesQuery};
 
-use crate::lines::{graph_refused, not_built, text_refused, trust_refused};
-use query_graph::{Graph, GraphFault, Node, Operator, build};
+use crate::end::End;
+use crate::lines::{graph_refused, text_refused, trust_refused};
+use outside::{Folder, FolderFault};
+use query_graph::{Graph, GraphFault, build};
 use query_text::{Query, ReadFault, read_query};
 use std::alloc::{AllocError, Global};
 use trust_sets::{check_trust, derive_trust};
@@ -32,8 +35,33 @@ impl From<AllocError> for Stop {
     }
 }
 
+/// The graph of the query in a file, or how the command ends without one.
+pub(crate) fn compile_file<F: Folder>(
+    alloc: Global,
+    query: &str,
+    files: &mut F,
+) -> Result<Graph, End>
+    ensures compiles { CompilesFile (F.files files.old) query.now (Rose (F.faults files.old) (F.faults files.new)) result }
+    ensures named { IfOk result (λ graph. AreNamed graph.nodes) }
+    ensures called { IfOk result (λ _. Called (query.now ∷ []) (F.calls files.old) (F.calls files.new)) }
+    ensures calls { CalledFront (query.now ∷ []) (F.calls files.old) (F.calls files.new) }
+    ensures kept { F.files files.new ≡ F.files files.old }
+    ensures later { F.faults files.old ≤ F.faults files.new }
+{
+    let text = match files.read(query) {
+        Ok(text) => text,
+        Err(FolderFault::Failed) => return Err(End::Outside),
+        Err(FolderFault::Memory) => return Err(End::Memory),
+    };
+    match compile(alloc, &text) {
+        Ok(graph) => Ok(graph),
+        Err(Stop::Refused(line)) => Err(End::Refused(line)),
+        Err(Stop::Memory) => Err(End::Memory),
+    }
+}
+
 /// The graph of a text, or the line of its refusal.
-pub(crate) fn compile(alloc: Global, text: &[u8]) -> Result<Graph, Stop>
+fn compile(alloc: Global, text: &[u8]) -> Result<Graph, Stop>
     ensures compiles { Compiles text.now result }
     ensures named { IfOk result (λ graph. AreNamed graph.nodes) }
 {
@@ -68,54 +96,16 @@ fn checked(alloc: Global, graph: Graph) -> Result<Graph, Stop>
     }
 }
 
-/// The line of a graph's refusal by trust or release, or for its first bound.
+/// The line of a graph's refusal by trust or release.
 fn graph_refusal(alloc: Global, graph: &Graph) -> Result<Option<Vec<u8>>, AllocError>
     ensures { IfOk result (λ line. option_map (λ l. l.items) line ≡ graph_refusal graph.now) }
 {
     let trust = derive_trust(alloc, graph)?;
     match check_trust(graph, &trust) {
-        Ok(()) => bound_refusal(alloc, graph.nodes()),
+        Ok(()) => Ok(None),
         Err(fault) => {
             let line = trust_refused(alloc, graph.nodes(), &fault)?;
             Ok(Some(line))
         }
-    }
-}
-
-/// The line of the first bound.
-fn bound_refusal(alloc: Global, nodes: &[Node]) -> Result<Option<Vec<u8>>, AllocError>
-    ensures { IfOk result (λ line. option_map (λ l. l.items) line ≡ option_map not_built (first_bound nodes.now)) }
-{
-    match first_bound(nodes) {
-        Some(line) => {
-            let line = not_built(alloc, line)?;
-            Ok(Some(line))
-        }
-        None => Ok(None),
-    }
-}
-
-/// The line of the first node with a bound.
-fn first_bound(nodes: &[Node]) -> Option<u32>
-    ensures { result ≡ first_bound nodes.now }
-{
-    for node in nodes {
-        if is_bounded(&node.shape) {
-            return Some(node.line);
-        }
-    }
-    None
-}
-
-/// Whether a bound is written on the operator.
-fn is_bounded(shape: &Operator) -> bool
-    ensures { result ≡ is_bounded shape.now }
-{
-    match shape {
-        Operator::Filter(filter) => filter.at_most.is_some(),
-        Operator::Join(join) => join.at_most.is_some(),
-        Operator::Group(group) => group.parts_at_most.is_some() || group.at_most.is_some(),
-        Operator::Distinct(distinct) => distinct.at_most.is_some(),
-        Operator::Relation(_) | Operator::Select(_) | Operator::Concat(_) => false,
     }
 }

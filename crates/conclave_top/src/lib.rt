@@ -1,11 +1,13 @@
 //! The commands of the program, over any folder and streams that are handed in.
 //!
-//! Stands on the query's crates, `plain_meaning`, `tables` and `outside`. The folder and the streams are seen as what
-//! they tell: files, calls, bytes, and counts of faults. The main promise stands on `conclave`, as one record: what each
-//! status says of the words, the files and the bytes written. The laws say that each comes exactly where it is due.
+//! Stands on the query's crates, `plain_meaning`, `trust_sets`, `tables` and `outside`. The folder and the streams are
+//! seen as what they tell: files, calls, bytes, and counts of faults. The main promise stands on `conclave`, as one
+//! record: what each status says of the words, the files and the bytes written. The laws say that each comes exactly
+//! where it is due.
 #![tactic(auto)]
 
 mod answers;
+mod bounds;
 mod command;
 mod compile;
 mod end;
@@ -13,6 +15,11 @@ mod finish;
 mod laws;
 mod lines;
 mod plain;
+mod plan;
+#[cfg(test)]
+mod plan_tests;
+mod plan_text;
+mod print;
 mod relations;
 #[cfg(test)]
 mod tests;

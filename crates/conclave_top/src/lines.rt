@@ -99,7 +99,7 @@ fn unreleased(
 }
 
 /// The name of the node with this number.
-fn name_of(nodes: &[Node], number: u32) -> &[u8]
+pub(crate) fn name_of(nodes: &[Node], number: u32) -> &[u8]
     ensures { result.now ≡ name_of_node (slice_get nodes.now number) }
 {
     match nodes.get(number as usize) {

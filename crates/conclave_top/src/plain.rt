@@ -1,19 +1,25 @@
-//! The command `plain`, stage by stage: the query's text, its graph, the files of its relations, its answers.
+//! The command `plain`, stage by stage: the query's graph, the files of its relations, its answers.
 
 ghost use Rattle.std.specs.Prelude.{◌≡◌, ◌⊎◌, length, map, None};
 ghost use Rattle.outside.specs.Cause.{Rose};
-ghost use Rattle.conclave_top.specs.End.{Ended};
-ghost use Rattle.conclave_top.specs.Plain.{CalledFront, IsDue, IsDueOver, PlainCalls, prints, verdict_of};
 ghost use Rattle.conclave_top.specs.Answers.{printed};
-ghost use Rattle.conclave_top.specs.Compile.{first_bound};
-ghost use Rattle.plain_meaning.specs.Fits.{AreFiles, relations};
+ghost use Rattle.conclave_top.specs.Bounds.{first_bound};
+ghost use Rattle.conclave_top.specs.Calls.{CalledFront, PlainCalls};
+ghost use Rattle.conclave_top.specs.Command.{plain};
+ghost use Rattle.conclave_top.specs.Due.{IsDue};
+ghost use Rattle.conclave_top.specs.End.{Ended};
+ghost use Rattle.conclave_top.specs.Plain.{IsDueOver, verdict_of};
 ghost use Rattle.conclave_top.specs.Relations.{AreNamed, files_of, tables_of};
+ghost use Rattle.conclave_top.specs.Verdict.{prints};
+ghost use Rattle.plain_meaning.specs.Fits.{AreFiles, relations};
 
 use crate::answers::answers;
-use crate::compile::{Stop, compile};
+use crate::bounds::{first_bound, unbuilt};
+use crate::compile::compile_file;
 use crate::end::End;
+use crate::print::print;
 use crate::relations::{FileStop, file_names, read_all, read_tables};
-use outside::{Folder, FolderFault, OutFault, Sink};
+use outside::{Folder, FolderFault, Sink};
 use query_graph::Graph;
 use std::alloc::Global;
 use tables::Table;
@@ -25,24 +31,22 @@ pub(crate) fn plain<F: Folder, O: Sink>(
     files: &mut F,
     out: &mut O,
 ) -> End
-    ensures end { Ended (IsDue (F.files files.old) query.now) (O.taken out.old) (O.taken out.new)
+    ensures end { Ended (IsDue (F.files files.old) (plain query.now)) (O.taken out.old) (O.taken out.new)
         (Rose (F.faults files.old) (F.faults files.new) ⊎ Rose (O.faults out.old) (O.faults out.new)) result }
     ensures calls { PlainCalls (F.files files.old) query.now (F.calls files.old) (F.calls files.new) }
     ensures kept { F.files files.new ≡ F.files files.old }
 {
-    let text = match files.read(query) {
-        Ok(text) => text,
-        Err(FolderFault::Failed) => return End::Outside,
-        Err(FolderFault::Memory) => return End::Memory,
+    let graph = match compile_file(alloc, query, files) {
+        Ok(graph) => graph,
+        Err(end) => return end,
     };
-    match compile(alloc, &text) {
-        Ok(graph) => over_graph(alloc, &graph, files, out),
-        Err(Stop::Refused(line)) => End::Refused(line),
-        Err(Stop::Memory) => End::Memory,
+    match first_bound(graph.nodes()) {
+        Some(line) => unbuilt(alloc, line),
+        None => over_graph(alloc, &graph, files, out),
     }
 }
 
-/// The same behind the text: over the query's graph.
+/// The same over a graph without a bound.
 fn over_graph<F: Folder, O: Sink>(alloc: Global, graph: &Graph, files: &mut F, out: &mut O) -> End
     requires named { AreNamed graph.now.nodes }
     requires unbounded { first_bound graph.now.nodes ≡ None }
@@ -86,9 +90,5 @@ fn over_tables<O: Sink>(alloc: Global, graph: &Graph, tables: Vec<Table>, out: &
     let Ok(text) = answers(alloc, graph, tables) else {
         return End::Memory;
     };
-    match out.write(&text) {
-        Ok(()) => End::Done,
-        Err(OutFault::Failed) => End::Outside,
-        Err(OutFault::Memory) => End::Memory,
-    }
+    print(&text, out)
 }

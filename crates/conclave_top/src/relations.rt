@@ -5,7 +5,7 @@ ghost use Rattle.std.specs.Str.{IsUtf8};
 ghost use Rattle.outside.specs.Cause.{HasCause};
 ghost use Rattle.plain_meaning.specs.Fits.{relations};
 ghost use Rattle.plain_meaning.specs.Meaning.{is_relation};
-ghost use Rattle.conclave_top.specs.Plain.{CalledFront};
+ghost use Rattle.conclave_top.specs.Calls.{CalledFront};
 ghost use Rattle.conclave_top.specs.Relations.{AreHeld, AreNamed, IsStored, files_of, GivesTable, GivesTables, file_of, table_of, tables_of};
 
 use crate::lines::file_line;

@@ -40,15 +40,15 @@ const USAGE: &[u8] =
     b"usage: conclave plan Q, plain Q, tape Q SEED T, run Q T [TURNS], audit Q PARTY A B T, replay Q PARTY T V, party Q PARTY T [PORT], make N\n";
 
 /// The calls that are to fail: of the folder, of the output, of the stream for errors.
-type Failing<'a> = (&'a [u64], &'a [u64], &'a [u64]);
+pub(crate) type Failing<'a> = (&'a [u64], &'a [u64], &'a [u64]);
 
 /// What a run left: its status, the output, the stream for errors, and the names that were called, each with a blank.
 #[derive(Drop)]
-struct Run {
-    status: u8,
-    out: Vec<u8>,
-    err: Vec<u8>,
-    calls: String,
+pub(crate) struct Run {
+    pub status: u8,
+    pub out: Vec<u8>,
+    pub err: Vec<u8>,
+    pub calls: String,
 }
 
 fn words_of(alloc: Global, words: &[&str]) -> Result<Vec<String>, AllocError> {
@@ -59,7 +59,7 @@ fn words_of(alloc: Global, words: &[&str]) -> Result<Vec<String>, AllocError> {
     Ok(owned)
 }
 
-fn run_words(
+pub(crate) fn run_words(
     alloc: Global,
     words: &[&str],
     files: &[(&str, &[u8])],
@@ -312,7 +312,7 @@ fn tells_the_usage_to_words_that_are_no_form(rt: HostRuntime) -> Result<(), Fail
         &[],
         &["plain"],
         &["plain", ""],
-        &["plan", "q.txt"],
+        &["plan", ""],
         &["--help"],
         &["Plain", "q.txt"],
         &["plain", "q.txt", "t"],

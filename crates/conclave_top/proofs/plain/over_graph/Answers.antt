@@ -1,6 +1,6 @@
 use Rattle.std.proofs.Common.{rules, ◌≡◌, ◌⊎◌, map, string_bytes, subst, inr}
 use Rattle.outside.specs.Cause.{Rose}
-use Rattle.conclave_top.specs.Plain.{CalledFront}
+use Rattle.conclave_top.specs.Calls.{CalledFront}
 use Rattle.conclave_top.specs.Relations.{AreHeld, files_of}
 use Rattle.conclave_top.proofs.Ends.{ended_over_graph}
 use Rattle.conclave_top.proofs.plain.over_graph.Goals as goal

@@ -1,6 +1,6 @@
 use Rattle.std.proofs.Common.{◌≡◌, drop}
-use Rattle.conclave_top.specs.Compile.{first_bound}
-use Rattle.conclave_top.proofs.compile.first_bound.Given as goal
+use Rattle.conclave_top.specs.Bounds.{first_bound}
+use Rattle.conclave_top.proofs.bounds.first_bound.Given as goal
 
 -- no node so far has a bound
 abbrev pub invariant-loop-node : goal.invariant-loop-node

@@ -1,0 +1,47 @@
+//! Bounds that a query's statements write, which `plain` doesn't carry out yet.
+
+ghost use Rattle.std.specs.Prelude.{◌≡◌, List, ℕ, Option};
+ghost use Rattle.conclave_top.specs.Bounds.{first_bound, is_bounded};
+ghost use Rattle.conclave_top.specs.End.{Ended};
+ghost use Rattle.conclave_top.specs.Lines.{not_built};
+ghost use Rattle.conclave_top.specs.Verdict.{refuses};
+
+use crate::end::End;
+use crate::lines::not_built;
+use query_graph::{Node, Operator};
+use std::alloc::Global;
+
+/// How `plain` ends where the statement on this line has a bound.
+pub(crate) fn unbuilt(alloc: Global, line: u32) -> End
+    ensures { (taken : Option (List ℕ)) → Ended (λ verdict. verdict ≡ refuses (not_built line)) taken taken ⊥ result }
+{
+    match not_built(alloc, line) {
+        Ok(line) => End::Refused(line),
+        Err(_) => End::Memory,
+    }
+}
+
+/// The line of the first node with a bound.
+pub(crate) fn first_bound(nodes: &[Node]) -> Option<u32>
+    ensures { result ≡ first_bound nodes.now }
+{
+    for node in nodes {
+        if is_bounded(&node.shape) {
+            return Some(node.line);
+        }
+    }
+    None
+}
+
+/// Whether a bound is written on the operator.
+fn is_bounded(shape: &Operator) -> bool
+    ensures { result ≡ is_bounded shape.now }
+{
+    match shape {
+        Operator::Filter(filter) => filter.at_most.is_some(),
+        Operator::Join(join) => join.at_most.is_some(),
+        Operator::Group(group) => group.parts_at_most.is_some() || group.at_most.is_some(),
+        Operator::Distinct(distinct) => distinct.at_most.is_some(),
+        Operator::Relation(_) | Operator::Select(_) | Operator::Concat(_) => false,
+    }
+}

@@ -1,0 +1,127 @@
+use crate::tests::{Failing, Run, run_words};
+use std::alloc::Global;
+use std::test::Fail;
+
+/// Credit scores by zip code, with a bound.
+const CREDIT: &[u8] = b"relation people of 1 rows 4 (ssn num, zip text)
+relation scores2 of 2 rows 3 (ssn num trust 1, score num)
+relation scores3 of 3 rows 3 (ssn num trust 1, score num)
+scores = concat scores2 scores3
+joined = join people scores on ssn at most 6
+byzip = group joined by zip (total = sum score, n = count)
+output byzip to 1
+";
+
+/// Every statement, and every set of parties.
+const OPERATORS: &[u8] = b"relation a of 1 rows 3 (k num trust 2 3, x num trust 3, y num)
+relation b of 2 rows 2 (k num trust 3, z num trust 1)
+relation c of 3 rows 2 (k num, z num)
+f = filter a where x > 5 at most 2
+s = select a (k, n = x + y, c = 7)
+p = concat b c
+j = join f b on k
+g = group a by x (n = count, t = sum k)
+d = distinct b
+output g to 1 2 3
+output d to 2 3
+output a to 1 2
+";
+
+/// A command on a query in a folder that has no other file.
+fn run<'x>(alloc: Global, word: &'x str, query: &'x [u8]) -> Result<Run, Fail> {
+    let files: [(&str, &'x [u8]); 1] = [("q.txt", query)];
+    run_words(alloc, &[word, "q.txt"], &files, (&[], &[], &[]))
+}
+
+#[test]
+fn plan_says_who_may_know_what(rt: HostRuntime) -> Result<(), Fail> {
+    let cases: [(&[u8], &[u8]); 3] = [
+        (
+            CREDIT,
+            b"people relation rows 4 know 1 ssn 1 zip 1
+scores2 relation rows 3 know 12 ssn 12 score 2
+scores3 relation rows 3 know 13 ssn 13 score 3
+scores concat rows 6 know 1 ssn 1 score -
+joined join rows 6 know 1 ssn 1 zip 1 score -
+byzip group rows 6 know 1 zip 1 total - n 1
+output byzip to 1 rows 6
+",
+        ),
+        (
+            b"relation a of 2 rows 2 (k num trust 1, s num)\nf = filter a where s > 5\noutput f to 2",
+            b"a relation rows 2 know 12 k 12 s 2
+f filter rows 2 know 2 k 2 s 2
+output f to 2 rows 2
+",
+        ),
+        (
+            OPERATORS,
+            b"a relation rows 3 know 123 k 123 x 13 y 1
+b relation rows 2 know 123 k 23 z 12
+c relation rows 2 know 3 k 3 z 3
+f filter rows 2 know 13 k 13 x 13 y 1
+s select rows 3 know 123 k 123 n 1 c 123
+p concat rows 4 know 3 k 3 z -
+j join rows 4 know 3 k 3 x 3 y - z -
+g group rows 3 know 13 x 13 n 13 t 13
+d distinct rows 2 know 2 k 2 z 2
+output g to 123 rows 3
+output d to 23 rows 2
+output a to 12 rows 3
+",
+        ),
+    ];
+    for (query, want) in cases {
+        let run = run(rt.alloc(), "plan", query)?;
+        assert!(rt; run.out.as_slice() == want);
+        assert_eq!(rt; run.status, 0);
+        assert!(rt; run.err.is_empty());
+        assert_eq!(rt; run.calls.as_str(), "q.txt ");
+    }
+    Ok(())
+}
+
+#[test]
+fn plan_and_plain_refuse_the_same(rt: HostRuntime) -> Result<(), Fail> {
+    let cases: [(&[u8], &[u8]); 4] = [
+        (b"output", b"refused: Q1 line 1 column 7: text\n"),
+        (b"", b"refused: Q10: no output\n"),
+        (
+            b"relation b of 1 rows 2 (k num, v num)\nrelation a of 2 rows 2 (k num trust 1, s num)\nf = filter a where s > 5\nj = join b f on k via 1\noutput j to 2\n",
+            b"refused: Q8 line 4: party 1 isn't trusted with k of f\n",
+        ),
+        (
+            b"relation r of 2 rows 2 (x num) release 2\noutput r to 1\n",
+            b"refused: Q9 line 2: party 1 isn't in the release set of r\n",
+        ),
+    ];
+    for (query, line) in cases {
+        for word in ["plan", "plain"] {
+            let run = run(rt.alloc(), word, query)?;
+            assert!(rt; run.err.as_slice() == line);
+            assert_eq!(rt; run.status, 2);
+            assert!(rt; run.out.is_empty());
+            assert_eq!(rt; run.calls.as_str(), "q.txt ");
+        }
+    }
+    Ok(())
+}
+
+#[test]
+fn plan_tells_each_failing_call(rt: HostRuntime) -> Result<(), Fail> {
+    let files: [(&str, &[u8]); 1] = [("q.txt", CREDIT)];
+    let line: &[u8] = b"outside fault\n";
+    // How many of the files are there, and the calls that fail.
+    let cases: [(usize, Failing<'_>); 3] = [
+        (0, (&[], &[], &[])),
+        (1, (&[0], &[], &[])),
+        (1, (&[], &[0], &[])),
+    ];
+    for (present, failing) in cases {
+        let run = run_words(rt.alloc(), &["plan", "q.txt"], &files[..present], failing)?;
+        assert_eq!(rt; run.status, 8);
+        assert!(rt; run.out.is_empty());
+        assert!(rt; run.err.as_slice() == line);
+    }
+    Ok(())
+}
