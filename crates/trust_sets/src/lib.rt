@@ -1,11 +1,12 @@
 //! Who may know which rows and columns of a query, and who may get its answers.
 //!
-//! Stands on query_graph, and on plain_operators for the order of a join's columns. A graph's trust is seen as two
-//! lists with a place for each node: who may know the node's rows and each of its columns (`specs/Known.antt`), and
-//! for each party the first relation under the node that isn't released to it (`specs/Release.antt`). The main
-//! promise: `derive_trust` gives exactly these, and `check_trust` exactly the first statement that asks for more
-//! (`specs/Faults.antt`). `agree` tells whether two worlds differ in nothing that a party may know
-//! (`specs/Agreement.antt`), or the first part in which they do (`specs/Differs.antt`).
+//! Stands on query_graph, and on plain_meaning and plain_operators for what a graph's rows are in a world. A graph's
+//! trust is seen as two lists with a place for each node: who may know the node's rows and each of its columns
+//! (`specs/Known.antt`), and for each party the first relation under the node that isn't released to it
+//! (`specs/Release.antt`). The main promises: `derive_trust` gives exactly these, `check_trust` exactly the first
+//! statement that asks for more (`specs/Faults.antt`), and `agree` exactly the first part in which two worlds differ
+//! in what a party may know (`specs/Agreement.antt`, `specs/Differs.antt`); and the trust lemma: where two worlds'
+//! files agree for a party, what it may know of any node is the same (`specs/Steps.antt`).
 #![tactic(auto)]
 
 #[cfg(test)]
