@@ -9,3 +9,9 @@ pub mod Carries
 pub mod WordSums
 pub mod WordChoice
 pub mod WordProduct
+pub mod MaskedAnd
+pub mod XorThrough
+pub mod Items
+pub mod TablePlaces
+pub mod FoldLemmas
+pub mod Logarithms

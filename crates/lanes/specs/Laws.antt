@@ -2,7 +2,6 @@
 use Rattle.std.specs.Prelude.{◌≡◌, ℕ, ◌≤◌, ◌<◌, List, length, slice_index}
 use Rattle.lanes.specs.declared.party.Party.{Party}
 use Rattle.lanes.specs.declared.three.Three.{Three}
-use Rattle.lanes.specs.Word.{AreWords}
 use Rattle.lanes.specs.Lanes.{ands, xors, nots, crosses, picked}
 use Rattle.lanes.specs.Party.{next, before}
 use Rattle.lanes.specs.Three.{at, put, opened}
@@ -42,12 +41,6 @@ AndOfShares = (s t : Three (List ℕ)) → opened (cross_parts s t) ≡ ands (op
     second = crosses s.second s.third t.second t.third;
     third = crosses s.third s.first t.third t.first;
   }
-
--- lists of words stay such under xor and picking
-abbrev pub WordsStay : Type 0
-WordsStay =
-    ((xs ys : List ℕ) → AreWords xs → AreWords ys → AreWords (xors xs ys))
-    × ((ps xs : List ℕ) → AreWords xs → AreWords (picked ps xs))
 
 -- the parties go round
 abbrev pub GoRound : Type 0

@@ -8,3 +8,9 @@ pub mod Sums
 pub mod Carry
 pub mod Fold
 pub mod Product
+pub mod Items
+pub mod XorLaws
+pub mod SharedAnd
+pub mod Table
+pub mod Folds
+pub mod Logarithm

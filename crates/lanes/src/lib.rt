@@ -9,13 +9,17 @@
 mod lane_work;
 mod laws;
 mod listed;
+mod log;
 mod party;
 #[cfg(test)]
 mod tests;
 mod three;
 
 pub use lane_work::{pick_words, shared_and, shared_ands, xor_into, xor_words};
-pub use laws::{lane_laws, party_laws};
+pub use laws::{
+    fold_laws, item_laws, lane_laws, log_laws, party_laws, shared_and_laws, table_laws, xor_laws,
+};
 pub use listed::{Listed, Numbers, Words};
+pub use log::ceil_log2;
 pub use party::Party;
 pub use three::Three;

@@ -1,6 +1,6 @@
+use Rattle.lanes.proofs.Items.{words_stay}
 use Rattle.lanes.proofs.LaneLemmas.{xors_comm, xors_assoc, xors_twice, ands_xors, nots_xors, picked-xors, picked-picked}
 use Rattle.lanes.proofs.SharedAnd.{parts}
-use Rattle.lanes.proofs.WordsKept.{words_of_xors, words_of_picked}
 use Rattle.lanes.proofs.laws.lane_laws.Goals as goal
 
 pub returns : goal.returns
@@ -13,5 +13,5 @@ returns c = record {
   pick_of_xor = picked-xors;
   pick_of_pick = picked-picked;
   and_of_shares = λ s t. parts s.first s.second s.third t.first t.second t.third;
-  words_stay = (words_of_xors, words_of_picked);
+  words_stay = words_stay;
 }
