@@ -1,3 +1,4 @@
 pub mod Bag
 pub mod Sorted
 pub mod Laws
+pub mod Words

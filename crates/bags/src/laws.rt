@@ -1,5 +1,6 @@
 //! Laws of bags and of the sorted list. Each function does nothing, and its contract is the law.
 ghost use Rattle.bags.specs.Laws.{BagsAreEquivalence, BagsArePermutations, BagsKeepRows, BagsOfAppend, BagsOfMap, BagsOfFilter, BagsOfFlatMap, BagsOfImages, BagsOfConcat, BagsOfPlaces, BagsOfFold, BagsOfSameMembers, BagsOfInjectiveMap, SortedIsInOrder, SortedIsUnique, SortedTellsBags};
+ghost use Rattle.bags.specs.Words.{FoldOfWords, WordsAreBags, WordsOfRows, WordsOfSameMembers};
 
 /// Being the same bag is an equivalence.
 pub fn bags_are_equivalence()
@@ -79,4 +80,24 @@ pub fn sorted_is_unique()
 /// The sorted lists are equal exactly where the bags are.
 pub fn sorted_tells_bags()
     ensures { SortedTellsBags }
+{}
+
+/// Lists of words as bags: an equivalence, which is the same as being a permutation, and goes through appending.
+pub fn words_are_bags()
+    ensures { WordsAreBags }
+{}
+
+/// Lists of words without repeats and with the same words are the same bag.
+pub fn words_of_same_members()
+    ensures { WordsOfSameMembers }
+{}
+
+/// Folding words by an associative, commutative operation gives the same for the same bag.
+pub fn fold_of_words()
+    ensures { FoldOfWords }
+{}
+
+/// A word for each row of a bag, and a row for each word of a bag, are bags again.
+pub fn words_of_rows()
+    ensures { WordsOfRows }
 {}
