@@ -3,9 +3,9 @@
 use Rattle.std.proofs.Common.{◌≡◌, ℕ, suc, zero, ◌+◌, ◌<◌, ◌≤◌, Bool, true, false, not, Vec, Global, List, [], ◌∷◌, length, get_or, take, refl, sym, ◌∙◌, ap, ⊎_elim, arith}
 use Rattle.std.proofs.lemmas.List.{get_or-map, length-map, take_more_same, ext_get_or}
 use Rattle.std.proofs.lemmas.Bool.{cases_order}
-use Rattle.lanes.proofs.LaneLemmas.{length-picked, get_or-picked}
+use Rattle.tapes.proofs.Picks.{length-picked, get_or-picked}
 use Rattle.bags.specs.Bag.{row_eq, count_of}
-use Rattle.bags.proofs.Rows.{row_test}
+use Rattle.std.specs.Cmp.Lexicographic.{bytes_decides}
 use Rattle.tapes.specs.Order.{composed, inverse_of, place_of}
 use Rattle.tapes.specs.Align.{rows_of, row_at, occurrence, rows_applied, Aligns, SortsPlaces}
 use Rattle.tapes.proofs.OrderLemmas.{length-inverse, get_or-inverse, IsOrder-inverse, IsOrder-composed, place_of-within, place_of-is}
@@ -43,15 +43,15 @@ aligned x y s t a b e =
     number s t k h = get_or-picked (inverse_of t) s k (omega (arith, length-inverse t)) ∙ ap (λ i. get_or s i 0) (get_or-inverse t k h)
 
 -- a later place of a row has more of it before
-count_more : (r : List ℕ) (rows : List (List ℕ)) (p q : ℕ) → p < q → q ≤ length rows → row_at rows p ≡ r → count_of r (take p rows) < count_of r (take q rows)
+pub count_more : (r : List ℕ) (rows : List (List ℕ)) (p q : ℕ) → p < q → q ≤ length rows → row_at rows p ≡ r → count_of r (take p rows) < count_of r (take q rows)
 count_more r [] p q h w e = absurd (omega arith)
 count_more r (x ∷ rows) p zero h w e = absurd (omega arith)
 count_more r (x ∷ rows) zero (suc q) h w e =
-    let one : row_eq r x ≡ true = (row_test.decides r x).1 (sym e) in rw one (omega arith)
+    let one : row_eq r x ≡ true = (bytes_decides r x).1 (sym e) in rw one (omega arith)
 count_more r (x ∷ rows) (suc p) (suc q) h w e = let rest = count_more r rows p q (omega arith) (omega arith) e in omega arith
 
 -- rows with their occurrences tell places apart
-one_place : (rows : List (List ℕ)) (p q : ℕ) → p < length rows → q < length rows → row_at rows p ≡ row_at rows q → occurrence rows p ≡ occurrence rows q → p ≡ q
+pub one_place : (rows : List (List ℕ)) (p q : ℕ) → p < length rows → q < length rows → row_at rows p ≡ row_at rows q → occurrence rows p ≡ occurrence rows q → p ≡ q
 one_place rows p q a b e o =
     ⊎_elim (λ same. same)
     (⊎_elim
@@ -121,10 +121,10 @@ equal_more a b i r s h w front x y e = take_more_same a b i [] h w front (sym x 
 pub equal_rows : (a b : List ℕ) (r : Bool) → r ≡ not (row_eq a b) → r ≡ false → a ≡ b
 equal_rows a b r e h = cases (row_eq a b) refl where
   cases : (t : Bool) → row_eq a b ≡ t → a ≡ b
-  cases true q = (row_test.decides a b).0 q
+  cases true q = (bytes_decides a b).0 q
   cases false q = absurd (let both : not (row_eq a b) ≡ false = sym e ∙ h in let turned : true ≡ false = ap not (sym q) ∙ both in cc)
 
 pub different_rows : (a b : List ℕ) (r : Bool) → r ≡ not (row_eq a b) → r ≡ true → a ≡ b → ⊥
 different_rows a b r e h same =
-    let equal : row_eq a b ≡ true = (row_test.decides a b).1 same in
+    let equal : row_eq a b ≡ true = (bytes_decides a b).1 same in
     let turned : true ≡ false = sym h ∙ e ∙ ap not equal in cc

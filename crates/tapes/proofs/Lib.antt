@@ -1,3 +1,4 @@
+pub mod Picks
 pub mod OrderLemmas
 pub mod Writes
 pub mod Marks
@@ -9,3 +10,7 @@ pub mod Making
 pub mod Occurrences
 pub mod SortingPlaces
 pub mod Aligning
+pub mod OrderedRows
+pub mod Existence
+pub mod NeedLemmas
+pub mod Readable

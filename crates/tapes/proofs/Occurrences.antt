@@ -11,7 +11,7 @@ use Rattle.std.proofs.lemmas.List.Sorted.{sum_by-IsPermutation}
 use Rattle.std.proofs.lemmas.Cmp.{tied_itself}
 use Rattle.bags.specs.Bag.{row_eq, count_of}
 use Rattle.bags.specs.Sorted.{row_cmp}
-use Rattle.bags.proofs.Rows.{row_test, row_order}
+use Rattle.std.specs.Cmp.Lexicographic.{bytes_decides, nat_list_cmp_total}
 use Rattle.tapes.specs.Align.{Numbered}
 use Rattle.tapes.proofs.Keyed.{KeyedBelow}
 
@@ -79,8 +79,8 @@ rows_differ x y less = cases (row_eq y x) refl where
   cases : (b : Bool) → row_eq y x ≡ b → b ≡ false
   cases false e = refl
   cases true e = absurd
-      (let same : y ≡ x = (row_test.decides y x).0 e in
-      let tied : row_cmp x y ≡ Equal = ap (λ z. row_cmp x z) same ∙ tied_itself row_order.total x in
+      (let same : y ≡ x = (bytes_decides y x).0 e in
+      let tied : row_cmp x y ≡ Equal = ap (λ z. row_cmp x z) same ∙ tied_itself nat_list_cmp_total x in
       let both : Less ≡ Equal = sym less ∙ tied in cc)
 
 rows_differ_back : (x y : List ℕ) → row_cmp x y ≡ Less → row_eq x y ≡ false
@@ -88,8 +88,8 @@ rows_differ_back x y less = cases (row_eq x y) refl where
   cases : (b : Bool) → row_eq x y ≡ b → b ≡ false
   cases false e = refl
   cases true e = absurd
-      (let same : x ≡ y = (row_test.decides x y).0 e in
-      let tied : row_cmp x y ≡ Equal = ap (λ z. row_cmp x z) (sym same) ∙ tied_itself row_order.total x in
+      (let same : x ≡ y = (bytes_decides x y).0 e in
+      let tied : row_cmp x y ≡ Equal = ap (λ z. row_cmp x z) (sym same) ∙ tied_itself nat_list_cmp_total x in
       let both : Less ≡ Equal = sym less ∙ tied in cc)
 
 earlier : {X : Type 0} (f : X → List ℕ) (g : X → ℕ) (q y : X) → KeyedBelow row_cmp f g y q → (row_eq (f q) (f y) && ltb (g y) (g q)) ≡ row_eq (f q) (f y)

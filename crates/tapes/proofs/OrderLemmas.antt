@@ -8,7 +8,7 @@ use Rattle.std.proofs.lemmas.Map.Steps.{length-le_from_distinct_below}
 use Rattle.std.proofs.lemmas.Bool.{cases_lt, cases_eq, ne_eqb}
 use Rattle.std.proofs.lemmas.Bool.Decides.{eqb_tells}
 use Rattle.lanes.specs.Lanes.{picked}
-use Rattle.lanes.proofs.LaneLemmas.{length-picked, get_or-picked, picked-picked}
+use Rattle.tapes.proofs.Picks.{length-picked, get_or-picked, picked-picked}
 use Rattle.tapes.specs.Order.{IsOrder, IsShortOrder, identity_of, applied, composed, place_of, inverse_of}
 
 -- ---- the place of a number
@@ -47,7 +47,7 @@ none_is v (x ∷ xs) h =
       | inr d ↦ (d.0, none_is v xs (let g = rw d.0 at h in omega arith))
     ]
 
-distinct : (o : List ℕ) → IsOrder o → IsDistinct eqb o
+pub distinct : (o : List ℕ) → IsOrder o → IsDistinct eqb o
 distinct o ok =
     IsDistinct-from_apart eqb o
     (λ i j d below within. ne_eqb (get_or o i d) (get_or o j d)
@@ -111,6 +111,9 @@ identity_right xs n e =
 
 pub length-composed : (a b : List ℕ) → length (composed a b) ≡ length b
 length-composed a b = length-picked b a
+
+pub get_or-composed : (a b : List ℕ) (k : ℕ) → k < length b → get_or (composed a b) k 0 ≡ get_or a (get_or b k 0) 0
+get_or-composed a b k h = get_or-picked b a k h
 
 pub IsOrder-composed : (a b : List ℕ) → IsOrder a → IsOrder b → length a ≡ length b → IsOrder (composed a b)
 IsOrder-composed a b p q e = record {

@@ -17,7 +17,7 @@ use Rattle.tapes.proofs.Keyed.{keyed_cmp, keyed_rising}
 flips : (x y : ℕ) → eqb x y ≡ eqb y x
 flips x y = grind arith
 
-identity_distinct : (n : ℕ) → IsDistinct eqb (identity_of n)
+pub identity_distinct : (n : ℕ) → IsDistinct eqb (identity_of n)
 identity_distinct n =
     IsDistinct-from_apart eqb (identity_of n)
     (λ i j d h w.

@@ -9,7 +9,8 @@ use Rattle.std.proofs.lemmas.List.{get_or-map, length-map, take-map}
 use Rattle.std.proofs.lemmas.List.Sorted.{All-permutation, length_permutation, IsPermutation-map}
 use Rattle.bags.specs.Bag.{row_eq, count_of}
 use Rattle.bags.specs.Sorted.{row_cmp, sorted}
-use Rattle.bags.proofs.Rows.{row_order, row_sorted_by_key}
+use Rattle.std.specs.Cmp.Lexicographic.{nat_list_cmp_total}
+use Rattle.bags.specs.Laws.{SortedIsUnique}
 use Rattle.tapes.specs.Order.{IsOrder, identity_of}
 use Rattle.tapes.specs.Align.{row_at, occurrence, rows_applied, Numbered, SortsPlaces}
 use Rattle.tapes.proofs.OrderLemmas.{length-identity}
@@ -67,7 +68,17 @@ map_twice : {X : Type 0} (g : X → ℕ) (p : ℕ → List ℕ) (ys : List X) �
 map_twice g p [] = refl
 map_twice g p (y ∷ ys) = ap (λ zs. p (g y) ∷ zs) (map_twice g p ys)
 
-module _ {X : Type 0} (f : X → List ℕ) (g : X → ℕ) (rs : List (List ℕ)) (xs ys : List X) (n : Numbered f g 0 rs xs) (moved : IsPermutation xs ys)
+-- items sorted by their rows have rows in order
+sorted_images : {X : Type 0} (f : X → List ℕ) (ys : List X) → IsSortedByKey f row_cmp ys → IsSorted row_cmp (map f ys)
+sorted_images f [] up k d low high = absurd (omega arith)
+sorted_images f (y ∷ ys) up k d low high =
+    let count : length (map f (y ∷ ys)) ≡ length (y ∷ ys) = length-map (y ∷ ys) f in
+    let upper : get_or (map f (y ∷ ys)) (k + 1) d ≡ f (get_or (y ∷ ys) (k + 1) y) = get_or-map f (y ∷ ys) (k + 1) y d (omega arith) in
+    let lower : get_or (map f (y ∷ ys)) k d ≡ f (get_or (y ∷ ys) k y) = get_or-map f (y ∷ ys) k y d (omega arith) in
+    ap (λ row. is_lt (row_cmp row (get_or (map f (y ∷ ys)) k d))) upper ∙ ap (λ row. is_lt (row_cmp (f (get_or (y ∷ ys) (k + 1) y)) row)) lower
+    ∙ up k y low (omega arith)
+
+module _ (unique : SortedIsUnique) {X : Type 0} (f : X → List ℕ) (g : X → ℕ) (rs : List (List ℕ)) (xs ys : List X) (n : Numbered f g 0 rs xs) (moved : IsPermutation xs ys)
     (up : IsSorted (keyed_cmp row_cmp f g) ys) where
   places : IsPermutation (identity_of (length rs)) (map g ys)
   places = subst (λ (zs : List ℕ). IsPermutation zs (map g ys)) (numbered_places f g 0 rs xs n) (IsPermutation-map g xs ys moved)
@@ -93,14 +104,14 @@ module _ {X : Type 0} (f : X → List ℕ) (g : X → ℕ) (rs : List (List ℕ)
   by_rows = λ k d low high. first_not_less (row_cmp (f (get_or ys (k + 1) d)) (f (get_or ys k d))) (nat_cmp (g (get_or ys (k + 1) d)) (g (get_or ys k d))) (up k d low high)
 
   in_order : rows_applied (map g ys) rs ≡ sorted rs
-  in_order = applied_is ∙ row_sorted_by_key f xs ys moved by_rows ∙ ap sorted (numbered_rows f g 0 rs xs n)
+  in_order = applied_is ∙ unique (map f xs) (map f ys) (IsPermutation-map f xs ys moved) (sorted_images f ys by_rows) ∙ ap sorted (numbered_rows f g 0 rs xs n)
 
   number_at : (j : ℕ) (d : X) → j < length ys → get_or (map g ys) j 0 ≡ g (get_or ys j d)
   number_at j d h = get_or-map g ys j d 0 h
 
   below : (i j : ℕ) (d : X) → i < j → j < length ys → KeyedBelow row_cmp f g (get_or ys i d) (get_or ys j d)
   below i j d h w =
-      keyed_rising row_order.total f g ys up i j d h w
+      keyed_rising nat_list_cmp_total f g ys up i j d h w
       (λ e. absurd
       (let same : i ≡ j = order.apart i j (omega (arith, same_long)) (omega (arith, same_long))
       (number_at i d (omega arith) ∙ e ∙ sym (number_at j d w)) in omega arith))

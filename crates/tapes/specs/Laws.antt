@@ -1,11 +1,15 @@
 -- The laws of orders, of aligning and of tapes from a seed.
-use Rattle.std.specs.Prelude.{◌≡◌, ℕ, List, length}
+use Rattle.std.specs.Prelude.{◌≡◌, ◌↔◌, ◌<◌, ◌^◌, ℕ, List, Result, Err, length, slice_index}
+use Rattle.bags.specs.Bag.{SameBag}
 use Rattle.lanes.specs.Lanes.{lanewise1, xors}
 use Rattle.tapes.specs.declared.draw.Need.{Need}
 use Rattle.tapes.specs.declared.draw.Draw.{Draw}
 use Rattle.tapes.specs.Order.{IsOrder, AllBelow, identity_of, applied, composed, inverse_of}
 use Rattle.tapes.specs.Align.{rows_applied, Aligns}
 use Rattle.tapes.specs.Made.{IsMadeTape}
+use Rattle.tapes.specs.ReadTape.{ReadsTape}
+use Rattle.tapes.specs.declared.tape_bytes.TapeFault.{TapeFault}
+use Rattle.tapes.specs.declared.tape_bytes.TapeFault.TheVariants.{Memory}
 
 -- the identity, one order after another one, and the inverse are orders
 pub record OrdersAreClosed : Type 0 where
@@ -43,6 +47,19 @@ pub record AlignedIsExact : Type 0 where
   pub gives : (x y : List (List ℕ)) (d : List ℕ) → Aligns x y d → rows_applied d x ≡ y
   pub only : (x y : List (List ℕ)) (d e : List ℕ) → Aligns x y d → Aligns x y e → d ≡ e
   pub back : (x y : List (List ℕ)) (d e : List ℕ) → Aligns x y d → Aligns y x e → e ≡ inverse_of d
+
+-- same bags have an order that aligns them, and only they do
+abbrev pub SameBagsAlign : Type 0
+SameBagsAlign = (x y : List (List ℕ)) → SameBag x y ↔ ((d : List ℕ) × Aligns x y d)
+
+-- bytes are a tape or have a first fault
+abbrev pub BytesHaveAnswer : Type 0
+BytesHaveAnswer = (needs : List Need) (bytes : List ℕ) → ((k : ℕ) → slice_index bytes k < 2 ^ 8)
+    → (answer : Result (List Draw) TapeFault) × (¬ (answer ≡ Err Memory) × ReadsTape needs bytes answer)
+
+-- a seed has a tape for any needs
+abbrev pub SeedsHaveTapes : Type 0
+SeedsHaveTapes = (seed tape : ℕ) (needs : List Need) → (draws : List Draw) × IsMadeTape seed tape needs draws
 
 -- a seed has one tape for its needs
 abbrev pub MadeTapeIsOnly : Type 0

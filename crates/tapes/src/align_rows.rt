@@ -41,6 +41,8 @@ pub fn align(
     ensures same_bag { OnOk result (SameBag (rows_of source.now.items) (rows_of target.now.items)) }
     ensures not_same_bag { result ≡ Err AlignFault.NotSameBag → ¬ SameBag (rows_of source.now.items) (rows_of target.now.items) }
 {
+    // A law: equal sorted lists are the same bag.
+    bags::laws::sorted_tells_bags();
     let first = sort_places(alloc, source)?;
     let second = sort_places(alloc, target)?;
     if !have_equal_rows(source, target, first.places(), second.places()) {
@@ -56,6 +58,8 @@ fn sort_places(alloc: Global, rows: &Vec<Vec<u64>>) -> Result<Order, AllocError>
     requires { length rows.now.items < 2 ^ 32 }
     ensures { IfOk result (λ order. SortsPlaces (rows_of rows.now.items) order) }
 {
+    // A law: what sorting leaves is the sorted list.
+    bags::laws::sorted_is_unique();
     let mut keyed = number_rows(alloc, rows)?;
     keyed.sort_unstable();
     let places = numbers_of(alloc, &keyed)?;

@@ -24,7 +24,7 @@ mod tests;
 pub use align_rows::{AlignFault, align};
 pub use cursor::Cursor;
 pub use draw::{Draw, Need, Schedule};
-pub use laws::{align_laws, made_laws, order_laws};
+pub use laws::{align_laws, made_laws, need_laws, order_laws, read_laws, row_laws};
 pub use make::make_tapes;
 pub use order::Order;
 pub use tape::{Tape, Tapes};

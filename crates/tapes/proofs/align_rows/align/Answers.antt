@@ -1,6 +1,4 @@
 use Rattle.std.proofs.Common.{◌≡◌, length, sym, ◌∙◌, ap}
-use Rattle.bags.proofs.Rows.{row_order, row_test}
-use Rattle.bags.proofs.Sorting.{sorted_by-SameBag, SameBag-from_sorted_by}
 use Rattle.tapes.specs.Align.{rows_of, rows_applied}
 use Rattle.tapes.proofs.OrderLemmas.{length-inverse}
 use Rattle.tapes.proofs.Aligning.{aligned, length-rows_applied}
@@ -9,7 +7,7 @@ use Rattle.tapes.proofs.align_rows.align.Goals as goal
 pub returns-then-not-have_equal_rows-clause-not_same_bag : goal.returns-then-not-have_equal_rows-clause-not_same_bag
 returns-then-not-have_equal_rows-clause-not_same_bag c = λ _ same.
     let rows : rows_applied c.in_ok-first.first (rows_of c.args.source.now.items) ≡ rows_applied c.in_ok-second.second (rows_of c.args.target.now.items)
-    = c.in_ok-first.ensures.in_order ∙ sorted_by-SameBag row_order row_test same ∙ sym c.in_ok-second.ensures.in_order in
+    = c.in_ok-first.ensures.in_order ∙ (c.sorted_tells_bags.ensures (rows_of c.args.source.now.items) (rows_of c.args.target.now.items)).0 same ∙ sym c.in_ok-second.ensures.in_order in
     let yes = c.have_equal_rows.ensures.1 (rw (c.places.ensures.value, c.places-2.ensures.value) rows) in cc
 
 pub then-requires : goal.then-requires
@@ -29,4 +27,4 @@ returns-clause-aligned c =
 pub returns-clause-same_bag : goal.returns-clause-same_bag
 returns-clause-same_bag c =
     let rows = rw (c.places.ensures.value, c.places-2.ensures.value) at (c.have_equal_rows.ensures.0 c.if-not-have_equal_rows.false) in
-    SameBag-from_sorted_by row_order (sym c.in_ok-first.ensures.in_order ∙ rows ∙ c.in_ok-second.ensures.in_order)
+    (c.sorted_tells_bags.ensures (rows_of c.args.source.now.items) (rows_of c.args.target.now.items)).1 (sym c.in_ok-first.ensures.in_order ∙ rows ∙ c.in_ok-second.ensures.in_order)

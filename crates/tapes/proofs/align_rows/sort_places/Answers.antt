@@ -11,7 +11,7 @@ short_from rows o s h = record { order = s.order; short = omega (arith, s.long) 
 pub from_permutation-requires : goal.from_permutation-requires
 from_permutation-requires c =
     let rows = c.args.rows.now.items in
-    let sorted = sorts_places (λ pair. pair.0.now) (λ pair. pair.1) (rows_of rows) c.in_ok-keyed.keyed.items c.sort_unstable.new.self.items c.in_ok-keyed.ensures
+    let sorted = sorts_places c.sorted_is_unique.ensures (λ pair. pair.0.now) (λ pair. pair.1) (rows_of rows) c.in_ok-keyed.keyed.items c.sort_unstable.new.self.items c.in_ok-keyed.ensures
     c.sort_unstable.ensures.permutation c.sort_unstable.ensures.sorted in
     rw (c.in_ok-places.ensures, c.deref.ensures.value)
     (short_from (rows_of rows) (map (λ pair. pair.1) c.sort_unstable.new.self.items) sorted
@@ -20,5 +20,5 @@ from_permutation-requires c =
 pub returns : goal.returns
 returns c =
     rw (c.from_permutation.ensures, c.in_ok-places.ensures, c.deref.ensures.value)
-    (sorts_places (λ pair. pair.0.now) (λ pair. pair.1) (rows_of c.args.rows.now.items) c.in_ok-keyed.keyed.items c.sort_unstable.new.self.items c.in_ok-keyed.ensures
+    (sorts_places c.sorted_is_unique.ensures (λ pair. pair.0.now) (λ pair. pair.1) (rows_of c.args.rows.now.items) c.in_ok-keyed.keyed.items c.sort_unstable.new.self.items c.in_ok-keyed.ensures
     c.sort_unstable.ensures.permutation c.sort_unstable.ensures.sorted)

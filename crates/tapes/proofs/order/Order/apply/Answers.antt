@@ -1,6 +1,6 @@
 use Rattle.std.proofs.Common.{◌≡◌, ◌<◌, length, get_or, ap, sym, ◌∙◌, arith}
 use Rattle.std.proofs.lemmas.List.{get_or_read}
-use Rattle.lanes.proofs.LaneLemmas.{get_or-picked, length-picked}
+use Rattle.tapes.proofs.Picks.{get_or-picked, length-picked}
 use Rattle.tapes.specs.Order.{applied}
 use Rattle.tapes.proofs.Writes.{written_more}
 use Rattle.tapes.proofs.order.Order.apply.Goals as goal

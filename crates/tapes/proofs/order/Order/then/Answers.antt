@@ -1,5 +1,5 @@
 use Rattle.std.proofs.Common.{◌≡◌, length, take, ap, sym, ◌∙◌, arith}
-use Rattle.lanes.proofs.LaneLemmas.{picked_all}
+use Rattle.tapes.proofs.Picks.{picked_all}
 use Rattle.tapes.specs.Order.{composed}
 use Rattle.tapes.proofs.OrderLemmas.{short_composed}
 use Rattle.tapes.proofs.order.Order.then.Goals as goal
