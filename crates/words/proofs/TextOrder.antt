@@ -48,7 +48,7 @@ padded_is_whole bytes fits =
     let zeros = length-replicate {A = ℕ} (8 - length bytes) 0 in
     omega arith
 
-worth_below : (n i : ℕ) (bytes : List ℕ) → list_all is_text_byte bytes ≡ true → worth n i bytes < 256 ^ n
+pub worth_below : (n i : ℕ) (bytes : List ℕ) → list_all is_text_byte bytes ≡ true → worth n i bytes < 256 ^ n
 worth_below zero i bytes all = omega arith
 worth_below (suc n) i bytes all =
     let rest = worth_below n (suc i) bytes all in

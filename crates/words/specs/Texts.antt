@@ -37,6 +37,10 @@ unpacked word = without_end_zeros (to_be_bytes w64 word)
 abbrev pub TextsComeBack : Type 0
 TextsComeBack = (bytes : List ℕ) (word : ℕ) → text_of bytes ≡ Ok word → unpacked word ≡ bytes
 
+-- the word of a text is below 2 ^ 64
+abbrev pub TextsAreWords : Type 0
+TextsAreWords = (bytes : List ℕ) (word : ℕ) → text_of bytes ≡ Ok word → word < 2 ^ 64
+
 -- what a word unpacks to has that word
 abbrev pub WordsComeBack : Type 0
 WordsComeBack = (word : ℕ) → word < 2 ^ 64 → packed (unpacked word) ≡ word

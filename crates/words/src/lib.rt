@@ -13,5 +13,6 @@ mod text;
 pub use column::{Column, Kind, Label};
 pub use num::{ValueFault, read_num};
 pub use text::{
-    pack_text, packing_keeps_order, spread, texts_come_back, unpack_text, words_come_back,
+    pack_text, packing_keeps_order, spread, texts_are_words, texts_come_back, unpack_text,
+    words_come_back,
 };

@@ -3,7 +3,7 @@
 
 ghost use Rattle.std.specs.Prelude.{◌≡◌, ◌++◌, ◌-◌, ◌≤◌, IfOk, length, replicate};
 ghost use Rattle.std.specs.List.{list_all};
-ghost use Rattle.words.specs.Texts.{PackingKeepsOrder, TextsComeBack, WordsComeBack, is_text_byte, packed, spread_of, text_of, unpacked, without_end_zeros};
+ghost use Rattle.words.specs.Texts.{PackingKeepsOrder, TextsAreWords, TextsComeBack, WordsComeBack, is_text_byte, packed, spread_of, text_of, unpacked, without_end_zeros};
 
 use crate::num::ValueFault;
 use std::alloc::{AllocError, Global};
@@ -42,6 +42,11 @@ pub fn texts_come_back()
 /// A law: what a word unpacks to has that word.
 pub fn words_come_back()
     ensures { WordsComeBack }
+{}
+
+/// A law: the word of a text is below 2^64.
+pub fn texts_are_words()
+    ensures { TextsAreWords }
 {}
 
 /// A law: texts are ordered as their words, byte by byte from the first on.
