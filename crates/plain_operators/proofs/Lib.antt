@@ -1,4 +1,5 @@
 pub mod Aggregates
+pub mod Columns
 pub mod Cuts
 pub mod DistinctRows
 pub mod GroupPlaces
@@ -7,6 +8,7 @@ pub mod Joins
 pub mod KeyPlaces
 pub mod Limits
 pub mod Lists
+pub mod OnSources
 pub mod Picks
 pub mod Places
 pub mod Regroup

@@ -1,11 +1,9 @@
--- Filter and join by the places of rows, and aggregates as folds over words.
-use Rattle.std.proofs.Common.{◌≡◌, ℕ, ◌+◌, ◌%◌, ◌^◌, Bool, List, [], ◌∷◌, map, length, refl, sym, ◌∙◌, ap, arith}
-use Rattle.std.specs.List.{filter, flat_map, fold, list_all}
-use Rattle.std.proofs.Math.Nat.{mod-add-mod}
+-- Filter and join by the places of rows.
+use Rattle.std.proofs.Common.{◌≡◌, ℕ, Bool, List, [], map, sym, ◌∙◌, ap}
+use Rattle.std.specs.List.{filter, flat_map, list_all}
 use Rattle.bags.proofs.Permutations.{map_places}
-use Rattle.plain_operators.specs.Columns.{word_at}
 use Rattle.plain_operators.specs.Operators.{have_equal_keys, joined_row, joined_rows_of}
-use Rattle.plain_operators.specs.Places.{AggregatesAreFolds, FilterOfPlaces, JoinOfPlaces, add_words, places_of, row_at}
+use Rattle.plain_operators.specs.Places.{FilterOfPlaces, JoinOfPlaces, places_of, row_at}
 use Rattle.plain_operators.proofs.Lists.{map_map, flat_map_same, flat_map-map, map-flat_map, filter-map}
 
 -- a filter by places
@@ -25,18 +23,3 @@ join_of_places keys lefts rights =
     ap (map (joined_row keys row)) (kept_places (have_equal_keys keys row) rights) ∙ map_map (joined_row keys row) (row_at rights) (matching row) ∙ sym (map_map made (λ right. (left, right)) (matching row)) in
     ap (flat_map (joined_rows_of keys rights)) (sym (map_places [] lefts)) ∙ flat_map-map (joined_rows_of keys rights) (row_at lefts) (places_of lefts)
     ∙ flat_map_same (λ left. joined_rows_of keys rights (row_at lefts left)) (λ left. map made (pairs left)) of_left (places_of lefts) ∙ sym (map-flat_map made pairs (places_of lefts))
-
--- the remainder taken once at the end, or at each step
-sum_by_words : (start : ℕ) (words : List ℕ) → fold (λ a w. a + w) start words % 2 ^ 64 ≡ fold add_words (start % 2 ^ 64) words
-sum_by_words start [] = refl
-sum_by_words start (w ∷ ws) = sum_by_words (start + w) ws ∙ ap (λ a. fold add_words a ws) (sym (mod-add-mod start (2 ^ 64) w))
-
-sum_of_ones : (start : ℕ) (rows : List (List ℕ)) → fold (λ a w. a + w) start (map (λ row. 1) rows) ≡ start + length rows
-sum_of_ones start [] = omega arith
-sum_of_ones start (row ∷ rows) = let rest = sum_of_ones (start + 1) rows in omega arith
-
-pub aggregates_are_folds : AggregatesAreFolds
-aggregates_are_folds = record {
-  sums = λ column rows. sum_by_words 0 (map (word_at column) rows);
-  counts = λ rows few. (let all = sum_of_ones 0 rows in let same : length rows ≡ fold (λ a w. a + w) 0 (map (λ row. 1) rows) % 2 ^ 64 = rw all (omega arith) in same) ∙ sum_by_words 0 (map (λ row. 1) rows);
-}

@@ -1,9 +1,11 @@
 pub mod Columns
 pub mod Cuts
+pub mod Folds
 pub mod Index
 pub mod Items
 pub mod Laws
 pub mod Limits
+pub mod OnSources
 pub mod Operators
 pub mod Places
 pub mod Regroup

@@ -1,13 +1,12 @@
--- Filter and join by the places of rows, and aggregates as folds over words.
-use Rattle.std.specs.Prelude.{◌≡◌, ℕ, ◌+◌, ◌%◌, ◌^◌, ◌<◌, Bool, List, [], Vec, length, map, slice_index_or}
+-- Filter and join by the places of rows.
+use Rattle.std.specs.Prelude.{◌≡◌, ℕ, ◌<◌, Bool, List, [], Vec, length, map, slice_index_or}
 use Rattle.std.specs.Global.{Global}
-use Rattle.std.specs.List.{All, filter, flat_map, fold, list_all, range_with_len}
+use Rattle.std.specs.List.{All, filter, flat_map, list_all, range_with_len}
 use Rattle.bags.specs.Bag.{row_eq}
-use Rattle.plain_operators.specs.Columns.{cut, word_at}
+use Rattle.plain_operators.specs.Columns.{cut}
 use Rattle.plain_operators.specs.declared.aggregate.Aggregate.{Aggregate}
-use Rattle.plain_operators.specs.declared.aggregate.Aggregate.TheVariants.{Sum, Count}
 use Rattle.plain_operators.specs.Laws.{block_row}
-use Rattle.plain_operators.specs.Operators.{aggregated, distinct_rows, have_equal_keys, joined_row, joined_rows, joined_words, kept_rows}
+use Rattle.plain_operators.specs.Operators.{distinct_rows, have_equal_keys, joined_row, joined_rows, joined_words, kept_rows}
 
 -- the places of a list of rows, from 0
 abbrev pub places_of : List (List ℕ) → List ℕ
@@ -44,15 +43,6 @@ matching_places keys lefts rights =
 abbrev pub JoinOfPlaces : Type 0
 JoinOfPlaces = (keys : List (ℕ × ℕ)) (lefts rights : List (List ℕ))
     → joined_rows keys lefts rights ≡ map (λ pair. joined_row keys (row_at lefts pair.0) (row_at rights pair.1)) (matching_places keys lefts rights)
-
--- the sum of two words
-abbrev pub add_words : ℕ → ℕ → ℕ
-add_words a b = (a + b) % 2 ^ 64
-
--- sums and counts are folds of one operation on words: a count adds up ones, where there are fewer than 2^64 rows
-pub record AggregatesAreFolds : Type 0 where
-  pub sums : (column : ℕ) (rows : List (List ℕ)) → aggregated (Sum column) rows ≡ fold add_words 0 (map (word_at column) rows)
-  pub counts : (rows : List (List ℕ)) → length rows < 2 ^ 64 → aggregated Count rows ≡ fold add_words 0 (map (λ row. 1) rows)
 
 -- the joined rows of a left row and the right rows at these places
 abbrev pub joined_rows_at : List ℕ → List ℕ → List (List ℕ) → List ℕ → List ℕ → List (List ℕ)

@@ -1,7 +1,9 @@
 //! Laws of the operators. Each function does nothing, and its contract is the law.
 ghost use Rattle.plain_operators.specs.Cuts.{AggregatesOfCuts, OperatorsOfCuts};
+ghost use Rattle.plain_operators.specs.Folds.{AggregatesAreFolds};
 ghost use Rattle.plain_operators.specs.Laws.{OperatorsKeepBags, OperatorsOfAppend, GroupOfBlocks, WholeTableIsGroup, DistinctIsGroup};
-ghost use Rattle.plain_operators.specs.Places.{AggregatesAreFolds, FilterOfPlaces, JoinOfPlaces};
+ghost use Rattle.plain_operators.specs.OnSources.{OperatorKeepsBags, OperatorKeepsSize, OperatorKeepsWidth};
+ghost use Rattle.plain_operators.specs.Places.{FilterOfPlaces, JoinOfPlaces};
 ghost use Rattle.plain_operators.specs.Regroup.{AggregatesOfAppend, RegroupOfParts};
 ghost use Rattle.plain_operators.specs.Sizes.{ItemsGiveWords, OperatorCounts, OperatorsKeepWidths, OperatorsKeepWords};
 
@@ -70,11 +72,6 @@ pub fn join_of_places()
     ensures { JoinOfPlaces }
 {}
 
-/// Sums and counts are folds of the addition of words.
-pub fn aggregates_are_folds()
-    ensures { AggregatesAreFolds }
-{}
-
 /// What is wanted of each operator's rows has the same bag where the columns that it depends on have.
 pub fn operators_of_cuts()
     ensures { OperatorsOfCuts }
@@ -84,3 +81,30 @@ pub fn operators_of_cuts()
 pub fn aggregates_of_cuts()
     ensures { AggregatesOfCuts }
 {}
+
+/// An aggregate of each kind is a fold of its column, from the neutral word or from the first one.
+pub fn aggregates_are_folds()
+    ensures { AggregatesAreFolds }
+{}
+
+/// An operator on sources that are the same bags gives the same bag.
+pub fn operator_keeps_bags()
+    ensures { OperatorKeepsBags }
+{
+    bags::laws::bags_of_concat();
+    operators_keep_bags();
+}
+
+/// The rows of an operator have the width that follows from those of its sources.
+pub fn operator_keeps_width()
+    ensures { OperatorKeepsWidth }
+{
+    operators_keep_widths();
+}
+
+/// An operator has no more rows than follows from its sources', and that number rises with theirs.
+pub fn operator_keeps_size()
+    ensures { OperatorKeepsSize }
+{
+    operator_counts();
+}
