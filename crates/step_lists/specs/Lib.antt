@@ -1,0 +1,14 @@
+pub mod Layout
+pub mod Shapes
+pub mod Draws
+pub mod Rules
+pub mod Run
+pub mod RunLaws
+pub mod Lin
+pub mod Open
+pub mod Seen
+pub mod Phases
+pub mod Machine
+pub mod Part
+pub mod Twin
+pub mod Possible
