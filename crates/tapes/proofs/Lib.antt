@@ -2,6 +2,7 @@ pub mod Picks
 pub mod OrderLemmas
 pub mod Writes
 pub mod Marks
+pub mod RunLemmas
 pub mod Spelling
 pub mod OneAnswer
 pub mod Keyed
