@@ -1,6 +1,6 @@
 -- The layout that a list of steps has grown: the lengths of the registers, the shapes of each party's slots, and
 -- how many flags there are.
-use Rattle.std.specs.Prelude.{ℕ, zero, suc, List, [], ◌∷◌, ◌++◌, length, map, slice_index, slice_index_or}
+use Rattle.std.specs.Prelude.{ℕ, suc, ◌==◌, List, [], ◌∷◌, ◌++◌, length, map, slice_index, slice_index_or, if◌then◌else◌}
 use Rattle.lanes.specs.declared.party.Party.{Party}
 use Rattle.lanes.specs.declared.party.Party.TheVariants.{First, Second, Third}
 use Rattle.lanes.specs.declared.three.Three.{Three}
@@ -24,9 +24,7 @@ pub record Layout : Type 0 where
 
 -- the party of a number; numbers other than 1, 2 and 3 stand in no list
 abbrev pub party_of : ℕ → Party
-party_of (suc zero) = First
-party_of (suc (suc zero)) = Second
-party_of _ = Third
+party_of n = if n == 1 then First else (if n == 2 then Second else Third)
 
 -- before the first step
 abbrev pub starting : Three (List ℕ) → Layout

@@ -2,6 +2,8 @@ pub mod Layout
 pub mod Shapes
 pub mod Draws
 pub mod Rules
+pub mod Laid
+pub mod Kept
 pub mod Run
 pub mod RunLaws
 pub mod Lin
@@ -12,3 +14,4 @@ pub mod Machine
 pub mod Part
 pub mod Twin
 pub mod Possible
+pub mod Pushed

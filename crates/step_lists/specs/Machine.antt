@@ -7,7 +7,8 @@ use Rattle.lanes.specs.declared.party.Party.TheVariants.{First, Second, Third}
 use Rattle.lanes.specs.declared.three.Three.{Three}
 use Rattle.lanes.specs.Party.{next, before}
 use Rattle.lanes.specs.Three.{at, put, each, opened}
-use Rattle.lanes.specs.Lanes.{xors, crosses}
+use Rattle.lanes.specs.Lanes.{xors}
+use Rattle.lanes.specs.SharedAnd.{and_shares}
 use Rattle.tapes.specs.Order.{composed, inverse_of}
 use Rattle.step_lists.specs.Layout.{Step, Const, Lin, And, Share, Reveal, Steer, Tell, Work, Flag, Steps, Layout, party_of, starting, rows_moved}
 use Rattle.step_lists.specs.Draws.{ThreeTapes, parties, nothing, words_in, order_in}
@@ -42,13 +43,6 @@ abbrev pub const_share : Party → List ℕ → List ℕ
 const_share First words = words
 const_share Second words = replicate (length words) 0
 const_share Third words = replicate (length words) 0
-
--- party i's new share of an and, by the words r drawn of each tape (after Araki and others, 2016)
-abbrev pub and_share : Party → Shares → Shares → Three (List ℕ) → List ℕ
-and_share i s t r = xors (xors (crosses (at i s) (at (next i) s) (at i t) (at (next i) t)) (at i r)) (at (next i) r)
-
-abbrev pub and_shares : Shares → Shares → Three (List ℕ) → Shares
-and_shares s t r = parties (λ i. and_share i s t r)
 
 -- the share that a party gives away of words that it shares: of the two that it keeps, each is drawn
 abbrev pub given_share : Party → List ℕ → Three (List ℕ) → List ℕ

@@ -1,5 +1,5 @@
 -- The rules of a well-formed list.
-use Rattle.std.specs.Prelude.{ℕ, ◌^◌, Bool, true, false, not, ◌&&◌, ◌==◌, nat_lt, nat_le, List, [], ◌∷◌, length, map, sum_by, IsTrue, ⊤}
+use Rattle.std.specs.Prelude.{ℕ, ◌+◌, ◌^◌, Bool, true, false, not, ◌&&◌, ◌==◌, nat_lt, nat_le, List, [], ◌∷◌, length, map, IsTrue, ⊤}
 use Rattle.std.specs.List.{list_all}
 use Rattle.lanes.specs.Three.{at}
 use Rattle.step_lists.specs.declared.step.Shape.{Shape}
@@ -31,8 +31,7 @@ is_order_of n (shapes.Words k) = false
 is_order_of n (shapes.OrderOf k) = k == n
 
 abbrev pub is_empty : {A : Type 0} → List A → Bool
-is_empty [] = true
-is_empty (x ∷ xs) = false
+is_empty xs = length xs == 0
 
 -- registers of one length, and at least one
 abbrev pub move_together : Layout → List ℕ → Bool
@@ -40,7 +39,8 @@ move_together l moved = not (is_empty moved) && list_all (λ r. is_register l r 
 
 -- how many words registers have, one after the other
 abbrev pub words_of_all : Layout → List ℕ → ℕ
-words_of_all l sources = sum_by (length_of l) sources
+words_of_all l [] = 0
+words_of_all l (r ∷ rs) = length_of l r + words_of_all l rs
 
 abbrev pub fits_lin : Layout → LinOp → Bool
 fits_lin l (Xor a b) = is_register l a && is_register l b && (length_of l a == length_of l b)

@@ -1,4 +1,5 @@
--- The one run over steps that are appended, and the one induction that relates two runs.
+-- The one run over steps that are appended, and the one induction that relates two runs: lemmas with their proofs, for
+-- the crates above.
 use Rattle.std.proofs.Common.{◌≡◌, List, [], ◌∷◌, ◌++◌, refl, sym, ap, ◌∙◌}
 use Rattle.std.proofs.lemmas.List.{append_assoc}
 use Rattle.step_lists.specs.Layout.{Step, Layout, grown, grown_by}

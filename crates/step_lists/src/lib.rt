@@ -1,10 +1,14 @@
 //! Lists of steps that three parties carry out on shared words, and what such a list means.
 #![tactic(auto)]
 
+mod layout;
+mod rules;
 mod slots;
 mod step;
+mod step_list;
 mod task;
 
 pub use slots::Slots;
 pub use step::{LinOp, Shape, Step};
+pub use step_list::{ListFault, StepList};
 pub use task::Task;
