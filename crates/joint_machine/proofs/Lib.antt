@@ -1,0 +1,10 @@
+pub mod Facts
+pub mod Listing
+pub mod Drawn
+pub mod OpenFits
+pub mod Masking
+pub mod LocalSteps
+pub mod MaskedSteps
+pub mod Phasing
+pub mod PhaseSteps
+pub mod SharesOpened

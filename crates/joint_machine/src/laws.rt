@@ -1,0 +1,20 @@
+//! The law of the joint machine. The function does nothing, and its contract is the law.
+ghost use Rattle.joint_machine.specs.Opens.{SharesAreLong, SharesAreOpened};
+
+use lanes::{item_laws, lane_laws, shared_and_laws, xor_laws};
+use step_lists::Task;
+use tapes::order_laws;
+
+/// The three shares of each register xor to its open value, and slots, flags and stop are those of the open values:
+/// for every well-formed list, and all slots and tapes that fit it. Where the run doesn't stop, each share has as many
+/// words as its register.
+pub fn opened_laws<T: Task>()
+    ensures opened { SharesAreOpened T.accepts T.answer }
+    ensures long { SharesAreLong T.accepts T.answer }
+{
+    lane_laws();
+    item_laws();
+    xor_laws();
+    shared_and_laws();
+    order_laws();
+}
