@@ -3,6 +3,11 @@ pub mod OrderLemmas
 pub mod Writes
 pub mod Marks
 pub mod RunLemmas
+pub mod LaidLemmas
+pub mod Standing
+pub mod Growing
+pub mod ReadingLemmas
+pub mod DrawBytes
 pub mod Spelling
 pub mod OneAnswer
 pub mod Keyed

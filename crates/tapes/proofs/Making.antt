@@ -1,13 +1,15 @@
 -- A generator at a place of a key's words, and tapes that are made draw by draw.
 use Rattle.std.proofs.Common.{◌≡◌, ℕ, suc, ◌+◌, ◌*◌, ◌<◌, ◌^◌, List, [], ◌∷◌, ◌++◌, length, get_or, take, map, refl, sym, ◌∙◌, ap, subst, arith}
-use Rattle.std.proofs.lemmas.List.{map_push}
+use Rattle.std.proofs.lemmas.List.{map_push, length_push}
 use Rattle.rand_chacha.specs.ChaCha.{ChaCha, word_at, key_of}
 use Rattle.tapes.specs.declared.draw.Need.{Need}
 use Rattle.tapes.specs.declared.draw.Need.TheVariants.{Word as NeedsWord, OrderOf}
 use Rattle.tapes.specs.declared.draw.Draw.{Draw}
 use Rattle.tapes.specs.declared.draw.Draw.TheVariants.{Word, Order}
 use Rattle.tapes.specs.Order.{identity_of}
-use Rattle.tapes.specs.Made.{key_bytes, key_word, worded, IsMadeDraw, AreMadeFrom}
+use Rattle.tapes.specs.Made.{key_bytes, key_word, worded, IsMadeDraw, AreMadeFrom, IsMadeTape}
+use Rattle.tapes.specs.Grown.{IsPushed}
+use Rattle.tapes.specs.Needs.{Meets, FitsNeeds}
 use Rattle.tapes.proofs.OrderLemmas.{identity_more}
 use Rattle.tapes.proofs.SortedOrders.{only_sorted}
 
@@ -31,15 +33,44 @@ pub worded_more : (words : ℕ → ℕ) (n : ℕ) → worded words (n + 1) ≡ w
 worded_more words n =
     ap (λ xs. map (λ i. (words i, i)) xs) (identity_more n) ∙ map_push (λ i. (words i, i)) (identity_of n) n
 
--- one more draw
-pub made_more : (seed tape d : ℕ) (needs : List Need) (ds : List Draw) (need : Need) (x : Draw) → length ds < length needs → need ≡ get_or needs (length ds) need
-    → AreMadeFrom seed tape d (take (length ds) needs) ds → IsMadeDraw seed tape (d + length ds) need x
-    → AreMadeFrom seed tape d (take (suc (length ds)) needs) (ds ++ x ∷ [])
-made_more seed tape d [] ds need x h e f m = absurd (omega arith)
-made_more seed tape d (n ∷ ns) [] need x h e f m =
-    (subst (λ (k : ℕ). IsMadeDraw seed tape k n x) (omega arith) (subst (λ (y : Need). IsMadeDraw seed tape (d + 0) y x) e m), tt)
-made_more seed tape d (n ∷ ns) (y ∷ ds) need x h e f m =
-    (f.0, made_more seed tape (suc d) ns ds need x (omega arith) e f.1 (subst (λ (k : ℕ). IsMadeDraw seed tape k need x) (omega arith) m))
+-- ---- one more draw
+
+made_push : (seed tape d : ℕ) (needs : List Need) (ds : List Draw) (need : Need) (x : Draw) → AreMadeFrom seed tape d needs ds
+    → IsMadeDraw seed tape (d + length ds) need x → AreMadeFrom seed tape d (needs ++ need ∷ []) (ds ++ x ∷ [])
+made_push seed tape d [] [] need x f m = (subst (λ (k : ℕ). IsMadeDraw seed tape k need x) (omega arith) m, tt)
+made_push seed tape d [] (y ∷ ds) need x f m = absurd f
+made_push seed tape d (n ∷ ns) [] need x f m = absurd f
+made_push seed tape d (n ∷ ns) (y ∷ ds) need x f m =
+    (f.0, made_push seed tape (suc d) ns ds need x f.1 (subst (λ (k : ℕ). IsMadeDraw seed tape k need x) (omega arith) m))
+
+fits_push : (needs : List Need) (ds : List Draw) (need : Need) (x : Draw) → FitsNeeds needs ds → Meets need x → FitsNeeds (needs ++ need ∷ []) (ds ++ x ∷ [])
+fits_push [] [] need x f m = (m, tt)
+fits_push [] (y ∷ ds) need x f m = absurd f
+fits_push (n ∷ ns) [] need x f m = absurd f
+fits_push (n ∷ ns) (y ∷ ds) need x f m = (f.0, fits_push ns ds need x f.1 m)
+
+-- a tape's first draws, and the generator of its words behind them
+pub record MadeSoFar (seed tape : ℕ) (needs : List Need) (ds : List Draw) (g : ChaCha) : Type 0 where
+  pub made : IsMadeTape seed tape needs ds
+  pub fits : FitsNeeds needs ds
+  pub words : g ≡ generator_at (key_bytes seed tape 0) (length ds)
+
+pub made_nothing : (seed tape : ℕ) (ds : List Draw) (g : ChaCha) → ds ≡ [] → g ≡ generator_at (key_bytes seed tape 0) 0 → MadeSoFar seed tape [] ds g
+made_nothing seed tape [] g e w = record { made = tt; fits = tt; words = w }
+made_nothing seed tape (x ∷ ds) g e w = absurd (cc)
+
+pub made_one : (seed tape : ℕ) (needs : List Need) (ds new : List Draw) (need : Need) (g h : ChaCha) → MadeSoFar seed tape needs ds g
+    → IsPushed (λ draw. IsMadeDraw seed tape (length ds) need draw × Meets need draw) ds new → h ≡ record g { word_pos = g.word_pos + 2 }
+    → MadeSoFar seed tape (needs ++ need ∷ []) new h
+made_one seed tape needs ds new need g h f p m =
+    rw p.pushed
+    (record {
+      made = made_push seed tape 0 needs ds need p.draw f.made (subst (λ (k : ℕ). IsMadeDraw seed tape k need p.draw) (omega arith) p.holds.0);
+      fits = fits_push needs ds need p.draw f.fits p.holds.1;
+      words =
+          generator_moved g h (key_bytes seed tape 0) (length ds) f.words m
+          ∙ ap (λ n. generator_at (key_bytes seed tape 0) n) (sym (length_push ds p.draw));
+    })
 
 -- ---- a seed has one tape
 

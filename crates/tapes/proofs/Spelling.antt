@@ -1,10 +1,12 @@
 -- What bytes begin with, one number or draw further.
-use Rattle.std.proofs.Common.{◌≡◌, ℕ, suc, zero, ◌+◌, ◌<◌, ◌^◌, List, [], ◌∷◌, ◌++◌, length, get_or, take, drop, slice_get, Some, sym, ◌∙◌, ap, subst, arith, add-one, lit<}
+use Rattle.std.proofs.Common.{◌≡◌, ℕ, suc, zero, ◌+◌, ◌<◌, ◌^◌, List, [], ◌∷◌, ◌++◌, length, get_or, take, drop, slice_get, Some, refl, sym, ◌∙◌, ap, subst, arith, add-one, lit<}
 use Rattle.std.specs.Int.{w32, to_be_bytes}
 use Rattle.std.proofs.lemmas.List.{append-nil, append_assoc, drop-drop, length_push}
+use Rattle.std.proofs.lemmas.Option.{slice_get_within, get_or_from_slice_get}
 use Rattle.std.proofs.lemmas.List.Concat.{flat_map-append}
 use Rattle.tapes.specs.declared.draw.Need.{Need}
 use Rattle.tapes.specs.declared.draw.Draw.{Draw}
+use Rattle.tapes.specs.Grown.{IsPushed}
 use Rattle.tapes.specs.Bytes.{number_bytes, draw_bytes, tape_bytes}
 use Rattle.tapes.specs.Needs.{Meets, FitsNeeds, width_of}
 use Rattle.tapes.specs.ReadTape.{Begins, IsNoOrderAt}
@@ -68,3 +70,24 @@ no_order_here needs bytes ds rest need d b e g no_order = record {
   needed = g ∙ ap (λ x. Some x) no_order.needed;
   no_order = no_order.no_order;
 }
+
+-- what is read so far: as many draws as the needs that are passed
+pub record ReadSoFar (needs passed : List Need) (bytes : List ℕ) (ds : List Draw) (rest : List ℕ) : Type 0 where
+  pub begins : Begins needs bytes ds rest
+  pub count : length ds ≡ length passed
+
+pub read_nothing : (needs : List Need) (bytes : List ℕ) (ds : List Draw) (rest : List ℕ) → ds ≡ [] → rest ≡ bytes → ReadSoFar needs [] bytes ds rest
+read_nothing needs bytes [] rest e r = record { begins = record { within = omega arith; fits = tt; spelled = sym r }; count = refl }
+read_nothing needs bytes (d ∷ ds) rest e r = absurd (cc)
+
+pub read_one : (needs passed : List Need) (bytes : List ℕ) (ds new : List Draw) (rest after : List ℕ) (need : Need) → ReadSoFar needs passed bytes ds rest
+    → slice_get needs (length passed) ≡ Some need → IsPushed (λ d. Meets need d × (rest ≡ draw_bytes d ++ drop (width_of need) rest)) ds new
+    → after ≡ drop (width_of need) rest → ReadSoFar needs (passed ++ need ∷ []) bytes new after
+read_one needs passed bytes ds new rest after need r g p e =
+    let there : slice_get needs (length ds) ≡ Some need = ap (λ n. slice_get needs n) r.count ∙ g in
+    rw (p.pushed, e)
+    (record {
+      begins = begins_more needs bytes ds rest (drop (width_of need) rest) need p.draw r.begins (slice_get_within needs (length ds) need there)
+          (sym (get_or_from_slice_get needs (length ds) need need there)) p.holds.0 p.holds.1;
+      count = length_push ds p.draw ∙ ap (λ n. n + 1) r.count ∙ sym (length_push passed need);
+    })

@@ -58,6 +58,6 @@ IsMadeTape seed tape needs draws = AreMadeFrom seed tape 0 needs draws
 
 -- the three tapes of a seed, for a schedule
 pub record AreMade (schedule : Schedule) (seed : ℕ) (tapes : Tapes) : Type 0 where
-  pub first : IsMadeTape seed 1 schedule.first.items tapes.first
-  pub second : IsMadeTape seed 2 schedule.second.items tapes.second
-  pub third : IsMadeTape seed 3 schedule.third.items tapes.third
+  pub first : IsMadeTape seed 1 schedule.first tapes.first
+  pub second : IsMadeTape seed 2 schedule.second tapes.second
+  pub third : IsMadeTape seed 3 schedule.third tapes.third

@@ -29,6 +29,6 @@ width_of (OrderOf n) = 4 * n
 
 -- each of the three tapes has the draws that the schedule needs of it
 pub record FitsSchedule (schedule : Schedule) (tapes : Tapes) : Type 0 where
-  pub first : FitsNeeds schedule.first.items tapes.first
-  pub second : FitsNeeds schedule.second.items tapes.second
-  pub third : FitsNeeds schedule.third.items tapes.third
+  pub first : FitsNeeds schedule.first tapes.first
+  pub second : FitsNeeds schedule.second tapes.second
+  pub third : FitsNeeds schedule.third tapes.third

@@ -1,3 +1,4 @@
+use crate::needs::Needs;
 use crate::order::Order;
 use std::alloc::{AllocError, Global};
 
@@ -19,6 +20,15 @@ pub enum Draw {
     Order(Order),
 }
 
+/// A draw that a tape lends: it keeps its words side by side, so a word is given as it is.
+#[derive(Clone, Copy, Debug)]
+pub enum LentDraw<'a> {
+    /// A word of 64 bits.
+    Word(u64),
+    /// A permutation.
+    Order(&'a Order),
+}
+
 impl Draw {
     ghost use Rattle.std.specs.Prelude.{◌≡◌, IfOk};
 
@@ -36,7 +46,7 @@ impl Draw {
 /// The draws that the steps of a protocol take from each of the three tapes, in order.
 #[derive(Debug, Drop)]
 pub struct Schedule {
-    pub first: Vec<Need>,
-    pub second: Vec<Need>,
-    pub third: Vec<Need>,
+    pub first: Needs,
+    pub second: Needs,
+    pub third: Needs,
 }

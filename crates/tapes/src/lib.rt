@@ -16,6 +16,7 @@ mod marking;
 mod needs;
 mod order;
 mod pairs;
+mod placed;
 mod read_draw;
 mod tape;
 mod tape_bytes;
@@ -24,7 +25,7 @@ mod tests;
 
 pub use align_rows::{AlignFault, align};
 pub use cursor::Cursor;
-pub use draw::{Draw, Need, Schedule};
+pub use draw::{Draw, LentDraw, Need, Schedule};
 pub use laws::{align_laws, made_laws, need_laws, order_laws, read_laws, row_laws};
 pub use make::make_tapes;
 pub use needs::{Needs, Run};

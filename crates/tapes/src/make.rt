@@ -1,10 +1,12 @@
-ghost use Rattle.std.specs.Prelude.{◌≡◌, ℕ, ◌+◌, ◌*◌, ◌<◌, ◌^◌, IfOk};
+ghost use Rattle.std.specs.Prelude.{◌≡◌, ℕ, ◌+◌, ◌*◌, ◌<◌, ◌^◌, IfOk, OnOk};
 ghost use Rattle.rand_chacha.specs.ChaCha.{word_at};
 ghost use Rattle.tapes.specs.Made.{key_bytes, key_word, worded, IsSortedByWords, IsMadeDraw, IsMadeTape, AreMade};
+ghost use Rattle.tapes.specs.Grown.{IsPushed};
 ghost use Rattle.tapes.specs.Needs.{Meets, FitsNeeds, FitsSchedule};
 ghost use Rattle.tapes.specs.Order.{IsShortOrder};
 
-use crate::draw::{Draw, Need, Schedule};
+use crate::draw::{Need, Schedule};
+use crate::needs::Needs;
 use crate::order::Order;
 use crate::pairs::numbers_of;
 use crate::tape::{Tape, Tapes};
@@ -30,39 +32,42 @@ pub fn make_tapes(alloc: Global, schedule: &Schedule, seed: u64) -> Result<Tapes
     })
 }
 
-fn make_tape(alloc: Global, seed: u64, tape: u8, needs: &Vec<Need>) -> Result<Tape, AllocError>
-    ensures made { IfOk result (λ made. IsMadeTape seed tape needs.now.items made) }
-    ensures fits { IfOk result (λ made. FitsNeeds needs.now.items made) }
+fn make_tape(alloc: Global, seed: u64, tape: u8, needs: &Needs) -> Result<Tape, AllocError>
+    ensures made { IfOk result (λ made. IsMadeTape seed tape needs.now made) }
+    ensures fits { IfOk result (λ made. FitsNeeds needs.now made) }
 {
-    let mut draws = Vec::with_capacity(alloc, needs.len())?;
+    let mut made = Tape::with_room(alloc, needs.words())?;
     let mut words = ChaCha20Rng::from_seed(key(seed, tape, 0));
-    for i in 0..needs.len() {
-        let word = next_word(&mut words);
-        let draw = make_draw(alloc, seed, tape, i as u64, needs[i], word)?;
-        draws.push(draw)?;
+    for run in needs.runs() {
+        for _draw in 0..run.count {
+            let number = made.len() as u64;
+            let word = next_word(&mut words);
+            push_made(alloc, seed, tape, number, run.need, word, &mut made)?;
+        }
     }
-    Tape::new(draws)
+    Ok(made)
 }
 
-// Draw number `number` of a tape, where `word` is that word of the tape's key for words.
-fn make_draw(
+// Draw number `number` of a tape behind the earlier ones, where `word` is that word of the tape's
+// key for words.
+fn push_made(
     alloc: Global,
     seed: u64,
     tape: u8,
     number: u64,
     need: Need,
     word: u64,
-) -> Result<Draw, AllocError>
+    made: &mut Tape,
+) -> Result<(), AllocError>
     requires number { number + 1 < 2 ^ 64 }
     requires word { word ≡ key_word (key_bytes seed tape 0) number }
-    ensures made { IfOk result (λ draw. IsMadeDraw seed tape number need draw) }
-    ensures meets { IfOk result (λ draw. Meets need draw) }
+    ensures pushed { OnOk result (IsPushed (λ draw. IsMadeDraw seed tape number need draw × Meets need draw) made.old made.new) }
 {
     match need {
-        Need::Word => Ok(Draw::Word(word)),
+        Need::Word => made.push_word(word),
         Need::OrderOf(count) => {
             let order = order_by_words(alloc, key(seed, tape, number + 1), count)?;
-            Ok(Draw::Order(order))
+            made.push_order(order)
         }
     }
 }

@@ -79,6 +79,17 @@ impl Needs {
         self.runs.as_slice()
     }
 
+    // How many of them are words, for a reservation.
+    pub(crate) fn words(&self) -> usize {
+        let mut count = 0usize;
+        for run in &self.runs {
+            if run.need == Need::Word {
+                count = count.saturating_add(run.count);
+            }
+        }
+        count
+    }
+
     /// How many needs there are.
     pub fn len(&self) -> usize
         ensures { result ≡ length self.now }

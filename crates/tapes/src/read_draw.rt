@@ -1,11 +1,13 @@
-ghost use Rattle.std.specs.Prelude.{◌≡◌, ℕ, ◌*◌, ◌≤◌, ◌<◌, ◌^◌, ◌++◌, IfOk, length, drop, slice_index};
+ghost use Rattle.std.specs.Prelude.{◌≡◌, ℕ, ◌*◌, ◌≤◌, ◌<◌, ◌^◌, ◌++◌, IfOk, MatchBool, Some, None, length, drop, slice_index};
 ghost use Rattle.std.specs.Int.{w32, w64, to_be_bytes};
 ghost use Rattle.tapes.specs.Bytes.{number_bytes};
+ghost use Rattle.tapes.specs.Grown.{IsPushed};
 ghost use Rattle.tapes.specs.Needs.{width_of};
 ghost use Rattle.tapes.specs.ReadDraw.{ReadsDraw};
 
-use crate::draw::{Draw, Need};
+use crate::draw::Need;
 use crate::order::Order;
+use crate::tape::Tape;
 use std::alloc::{AllocError, Global};
 
 /// How many bytes a draw of this sort takes.
@@ -18,21 +20,28 @@ pub(crate) fn width(need: Need) -> usize
     }
 }
 
-/// The draw that the bytes begin with, `None` where its numbers are no order.
-pub(crate) fn read_draw(alloc: Global, bytes: &[u8], need: Need) -> Result<Option<Draw>, AllocError>
+/// Puts the draw that the bytes begin with behind a tape's draws; false where its numbers are no
+/// order, and then the tape stays.
+pub(crate) fn push_draw(
+    alloc: Global,
+    bytes: &[u8],
+    need: Need,
+    tape: &mut Tape,
+) -> Result<bool, AllocError>
     requires { width_of need ≤ length bytes.now }
-    ensures { IfOk result (λ draw. ReadsDraw need bytes.now draw) }
+    ensures ok { IfOk result (λ is_draw. MatchBool is_draw (IsPushed (λ draw. ReadsDraw need bytes.now (Some draw)) tape.old tape.new) (ReadsDraw need bytes.now None × (tape.new ≡ tape.old))) }
 {
     match need {
-        Need::Word => Ok(Some(Draw::Word(read_word(bytes)))),
+        Need::Word => tape.push_word(read_word(bytes))?,
         Need::OrderOf(count) => {
             let numbers = read_numbers(alloc, bytes, count)?;
             match Order::new(numbers) {
-                Ok(order) => Ok(Some(Draw::Order(order))),
-                Err(_) => Ok(None),
+                Ok(order) => tape.push_order(order)?,
+                Err(_) => return Ok(false),
             }
         }
     }
+    Ok(true)
 }
 
 /// What follows the first `count` bytes.

@@ -1,11 +1,14 @@
-ghost use Rattle.std.specs.Prelude.{◌≡◌, ◌++◌, Ok, Err, IfOk, OnOk};
-ghost use Rattle.tapes.specs.Bytes.{tape_bytes, number_bytes};
+ghost use Rattle.std.specs.Prelude.{◌≡◌, ◌<◌, ◌++◌, Ok, Err, Some, true, IfOk, OnOk, length, slice_get};
+ghost use Rattle.tapes.specs.Bytes.{tape_bytes, draw_bytes, number_bytes};
 ghost use Rattle.std.specs.Int.{w64, to_be_bytes};
+ghost use Rattle.tapes.specs.declared.draw.Draw.{Draw};
+ghost use Rattle.tapes.specs.Reading.{moved_past};
 ghost use Rattle.tapes.specs.ReadTape.{ReadsTape, IsOnlyAnswer};
 ghost use Rattle.tapes.specs.declared.tape_bytes.TapeFault.TheVariants.{Memory};
 
-use crate::draw::{Draw, Need};
-use crate::read_draw::{after, read_draw, width};
+use crate::cursor::Cursor;
+use crate::needs::Needs;
+use crate::read_draw::{after, push_draw, width};
 use crate::tape::Tape;
 use byteorder::{BigEndian, ByteOrder};
 use std::alloc::{AllocError, AllocFailed, Global};
@@ -45,36 +48,37 @@ impl<T: Drop> From<AllocFailed<T>> for TapeFault {
 }
 
 /// The tape that the bytes spell for these needs, or the first fault in the order of draws.
-pub fn read_tape(alloc: Global, bytes: &[u8], needs: &Vec<Need>) -> Result<Tape, TapeFault>
-    ensures caused { ReadsTape needs.now.items bytes.now result }
-    ensures exact { IsOnlyAnswer needs.now.items bytes.now result }
+pub fn read_tape(alloc: Global, bytes: &[u8], needs: &Needs) -> Result<Tape, TapeFault>
+    ensures caused { ReadsTape needs.now bytes.now result }
+    ensures exact { IsOnlyAnswer needs.now bytes.now result }
 {
     read_draws(alloc, bytes, needs)
 }
 
-fn read_draws(alloc: Global, bytes: &[u8], needs: &Vec<Need>) -> Result<Tape, TapeFault>
-    ensures { ReadsTape needs.now.items bytes.now result }
+fn read_draws(alloc: Global, bytes: &[u8], needs: &Needs) -> Result<Tape, TapeFault>
+    ensures { ReadsTape needs.now bytes.now result }
 {
-    let mut draws = Vec::with_capacity(alloc, needs.len())?;
+    let mut tape = Tape::with_room(alloc, needs.words().min(bytes.len() / 8))?;
     let mut rest = bytes;
-    for i in 0..needs.len() {
-        let need = needs[i];
+    for run in needs.runs() {
+        let need = run.need;
         let taken = width(need);
-        if rest.len() < taken {
-            return Err(TapeFault::Short { at: i as u64 });
+        for _draw in 0..run.count {
+            let at = tape.len() as u64;
+            if rest.len() < taken {
+                return Err(TapeFault::Short { at });
+            }
+            if !push_draw(alloc, rest, need, &mut tape)? {
+                return Err(TapeFault::NotOrder { at });
+            }
+            rest = after(rest, taken);
         }
-        match read_draw(alloc, rest, need)? {
-            Some(draw) => draws.push(draw)?,
-            None => return Err(TapeFault::NotOrder { at: i as u64 }),
-        }
-        rest = after(rest, taken);
     }
     if !rest.is_empty() {
         return Err(TapeFault::Long {
             at: needs.len() as u64,
         });
     }
-    let tape = Tape::new(draws)?;
     Ok(tape)
 }
 
@@ -82,28 +86,27 @@ fn read_draws(alloc: Global, bytes: &[u8], needs: &Vec<Need>) -> Result<Tape, Ta
 pub fn write_tape(alloc: Global, tape: &Tape) -> Result<Vec<u8>, AllocError>
     ensures { IfOk result (λ bytes. bytes.items ≡ tape_bytes tape.now) }
 {
-    let draws = tape.draws();
-    let mut bytes = Vec::with_capacity(alloc, count_bytes(draws))?;
-    for draw in draws {
-        match draw {
-            Draw::Word(word) => push_word(&mut bytes, *word)?,
-            Draw::Order(order) => push_numbers(&mut bytes, order.places())?,
-        }
+    let mut bytes = Vec::with_capacity(alloc, tape.count_bytes())?;
+    let mut cursor = tape.cursor();
+    for _draw in 0..tape.len() {
+        push_next(&mut bytes, &mut cursor)?;
     }
     Ok(bytes)
 }
 
-// How much room the bytes of these draws take, for the one reservation.
-fn count_bytes(draws: &[Draw]) -> usize {
-    let mut count = 0usize;
-    for draw in draws {
-        let width = match draw {
-            Draw::Word(_) => 8,
-            Draw::Order(order) => order.len().saturating_mul(4),
-        };
-        count = count.saturating_add(width);
+// The bytes of the next draw behind these bytes.
+fn push_next(bytes: &mut Vec<u8>, cursor: &mut Cursor<'_>) -> Result<(), AllocError>
+    requires { cursor.old.place < length cursor.old.draws }
+    ensures bytes { OnOk result ((draw : Draw) → slice_get cursor.old.draws cursor.old.place ≡ Some draw → bytes.new.items ≡ bytes.old.items ++ draw_bytes draw) }
+    ensures moves { cursor.new ≡ moved_past cursor.old true }
+{
+    if let Some(word) = cursor.next_word() {
+        return push_word(bytes, word);
     }
-    count
+    match cursor.next_order() {
+        Some(order) => push_numbers(bytes, order.places()),
+        None => Ok(()),
+    }
 }
 
 fn push_word(bytes: &mut Vec<u8>, word: u64) -> Result<(), AllocError>

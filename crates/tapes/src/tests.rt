@@ -1,6 +1,6 @@
 use crate::{
-    AlignFault, Draw, Need, Order, Schedule, Tape, TapeFault, align, make_tapes, read_tape,
-    write_tape,
+    AlignFault, Draw, LentDraw, Need, Needs, Order, Schedule, Tape, TapeFault, align, make_tapes,
+    read_tape, write_tape,
 };
 use rand::rngs::StdRng;
 use rand::seq::SliceRandom;
@@ -12,16 +12,24 @@ use std::test::Fail;
 // The word of a draw, and the numbers of one.
 fn word_at(tape: &Tape, index: usize) -> Option<u64> {
     match tape.draw(index) {
-        Some(Draw::Word(word)) => Some(*word),
+        Some(LentDraw::Word(word)) => Some(word),
         _ => None,
     }
 }
 
 fn places_at(tape: &Tape, index: usize) -> Option<&[u32]> {
     match tape.draw(index) {
-        Some(Draw::Order(order)) => Some(order.places()),
+        Some(LentDraw::Order(order)) => Some(order.places()),
         _ => None,
     }
+}
+
+fn needs_of(rt: &HostRuntime, list: &[Need]) -> Result<Needs, Fail> {
+    let mut needs = Needs::new(rt.alloc());
+    for need in list {
+        needs.push(*need)?;
+    }
+    Ok(needs)
 }
 
 #[test]
@@ -54,7 +62,7 @@ fn lists_that_are_no_order_come_back(rt: HostRuntime) -> Result<(), Fail> {
 #[test]
 fn tapes_are_read_and_written(rt: HostRuntime) -> Result<(), Fail> {
     let bytes: [u8; 20] = [0, 0, 0, 0, 0, 0, 0, 5, 0, 0, 0, 2, 0, 0, 0, 0, 0, 0, 0, 1];
-    let needs = vec![in rt.alloc(); Need::Word, Need::OrderOf(3)]?;
+    let needs = needs_of(&rt, &[Need::Word, Need::OrderOf(3)])?;
     let tape = read_tape(rt.alloc(), &bytes, &needs)?;
     assert_eq!(rt; tape.len(), 2);
     assert_eq!(rt; word_at(&tape, 0), Some(5));
@@ -94,6 +102,46 @@ fn tapes_are_read_and_written(rt: HostRuntime) -> Result<(), Fail> {
     Ok(())
 }
 
+// The draws word 7, words 8 and 9, order 1 0, word 10, order 0, by index, in bulk and one by one.
+#[test]
+fn words_are_lent_in_bulk(rt: HostRuntime) -> Result<(), Fail> {
+    let draws = vec![in rt.alloc();
+        Draw::Word(7),
+        Draw::Word(8),
+        Draw::Word(9),
+        Draw::Order(order_of(&rt, &[1, 0])?),
+        Draw::Word(10),
+        Draw::Order(order_of(&rt, &[0])?),
+    ]?;
+    let tape = Tape::new(draws)?;
+    assert_eq!(rt; tape.len(), 6);
+    for (index, word) in [Some(7), Some(8), Some(9), None, Some(10), None]
+        .into_iter()
+        .enumerate()
+    {
+        assert_eq!(rt; word_at(&tape, index), word);
+    }
+    assert_eq!(rt; places_at(&tape, 3), Some([1, 0].as_slice()));
+    assert_eq!(rt; places_at(&tape, 5), Some([0].as_slice()));
+
+    let mut cursor = tape.cursor();
+    assert_eq!(rt; cursor.words_ready(), 3);
+    assert!(rt; cursor.next_words(4).is_none());
+    assert_eq!(rt; cursor.next_words(2), Some([7, 8].as_slice()));
+    assert_eq!(rt; cursor.place(), 2);
+    assert!(rt; cursor.next_words(2).is_none());
+    assert_eq!(rt; cursor.next_words(0), Some([].as_slice()));
+    assert_eq!(rt; cursor.next_words(1), Some([9].as_slice()));
+    assert!(rt; cursor.next_words(1).is_none());
+    assert!(rt; cursor.next_order().is_some());
+    assert_eq!(rt; cursor.next_word(), Some(10));
+    assert_eq!(rt; cursor.next_word(), None);
+    assert!(rt; tape.cursor_at(3).next_order().is_some());
+    assert_eq!(rt; tape.cursor_at(4).next_words(1), Some([10].as_slice()));
+    assert_eq!(rt; tape.cursor_at(6).next_word(), None);
+    Ok(())
+}
+
 // The first 16 bytes of the published key stream of the zero key are
 // 76 b8 e0 ad a0 f1 3d 90 40 5d 6a e5 53 86 bd 28, words of 32 bits low byte first.
 #[test]
@@ -105,9 +153,9 @@ fn words_of_the_zero_key_are_the_published_ones(rt: HostRuntime) {
 }
 
 fn three(rt: &HostRuntime, needs: &[Need]) -> Result<Schedule, Fail> {
-    let first = needs.to_vec(rt.alloc())?;
-    let second = needs.to_vec(rt.alloc())?;
-    let third = needs.to_vec(rt.alloc())?;
+    let first = needs_of(rt, needs)?;
+    let second = needs_of(rt, needs)?;
+    let third = needs_of(rt, needs)?;
     Ok(Schedule {
         first,
         second,
@@ -170,6 +218,13 @@ fn a_seed_gives_the_same_tapes_again(rt: HostRuntime) -> Result<(), Fail> {
     }
     assert!(rt; moved > 0);
     Ok(())
+}
+
+fn order_of(rt: &HostRuntime, numbers: &[u32]) -> Result<Order, Fail> {
+    match Order::new(numbers.to_vec(rt.alloc())?) {
+        Ok(order) => Ok(order),
+        Err(_) => Err("no order")?,
+    }
 }
 
 fn shuffled(rt: &HostRuntime, random: &mut StdRng, count: u32) -> Result<Order, Fail> {

@@ -1,11 +1,11 @@
-use Rattle.std.proofs.Common.{◌≡◌, length, take}
-use Rattle.tapes.specs.Made.{key_bytes, IsMadeTape}
-use Rattle.tapes.specs.Needs.{FitsNeeds}
-use Rattle.tapes.proofs.Making.{generator_at}
+use Rattle.std.proofs.Common.{◌++◌, replicate, take}
+use Rattle.tapes.specs.Runs.{needs_of}
+use Rattle.tapes.proofs.Making.{MadeSoFar}
 use Rattle.tapes.proofs.make.make_tape.Given as goal
 
-abbrev pub invariant-loop-i : goal.invariant-loop-i
-invariant-loop-i l =
-    (length l.draws.items ≡ l.i) × (l.words ≡ generator_at (key_bytes l.fn.seed l.fn.tape 0) l.i)
-    × IsMadeTape l.fn.seed l.fn.tape (take (length l.draws.items) l.needs.items) l.draws.items
-    × FitsNeeds (take (length l.draws.items) l.needs.items) l.draws.items
+abbrev pub invariant-loop-run : goal.invariant-loop-run
+invariant-loop-run l = MadeSoFar l.fn.seed l.fn.tape (needs_of (take l.run-index l.run-items)) l.made l.words
+
+abbrev pub invariant-loop-draw : goal.invariant-loop-draw
+invariant-loop-draw l =
+    MadeSoFar l.fn.seed l.fn.tape (needs_of (take l.run-index l.run-items) ++ replicate l._draw l.run.need) l.made l.words
