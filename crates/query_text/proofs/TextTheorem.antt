@@ -12,6 +12,8 @@ use Rattle.query_text.specs.Spelling.{spelling}
 use Rattle.query_text.specs.Grammar.{Fits, IsStatement, IsFault, AreStatements}
 use Rattle.std.specs.List.{AllByRecursion}
 use Rattle.std.proofs.lemmas.List.Elements.{All-from_recursion}
+use Rattle.std.proofs.lemmas.List.Kept.{AllPairs-cons}
+use Rattle.std.specs.Prelude.{AllPairs}
 use Rattle.query_text.specs.Text.{column_of, on_line, AreLines, IsFaultOfLine, IsFirstFault}
 use Rattle.query_text.specs.ReadText.{Spot, body_on, tokens_on, line_on, and_behind, read_lines}
 use Rattle.query_text.proofs.ReaderLaw.{bind_ok, bind_err, ok_is, err_is, ok_no_err}
@@ -225,7 +227,47 @@ lines_fit (line ∷ lines) n statements (inl h) = lines_fit lines (n + 1) statem
 lines_fit (line ∷ lines) n statements (inr h) =
     subst (λ (l : List Statement). AllByRecursion (λ (s : Statement). Fits s.body) l) (sym h.2) (h.3.fits, lines_fit lines (n + 1) h.1 h.4)
 
+-- their lines rise, from the number of the first line on
+record RiseFrom (n : ℕ) (statements : List Statement) : Type 0 where
+  pub from : AllByRecursion (λ (s : Statement). n ≤ s.line) statements
+  pub rise : AllPairs (λ (a b : Statement). a.line < b.line) statements
+
+from_next : (n : ℕ) (statements : List Statement) → AllByRecursion (λ (s : Statement). n + 1 ≤ s.line) statements → AllByRecursion (λ (s : Statement). n ≤ s.line) statements
+from_next n [] from = tt
+from_next n (s ∷ statements) from = (omega (arith, from.0), from_next n statements from.1)
+
+behind_line : (n : ℕ) (statements : List Statement) → AllByRecursion (λ (s : Statement). n + 1 ≤ s.line) statements → AllByRecursion (λ (s : Statement). n < s.line) statements
+behind_line n [] from = tt
+behind_line n (s ∷ statements) from = (omega (arith, from.0), behind_line n statements from.1)
+
+rise_behind : (n : ℕ) (body : Body) (statements : List Statement) → RiseFrom (n + 1) statements → RiseFrom n (on_line n body ∷ statements)
+rise_behind n body statements behind =
+    record {
+      from = (omega arith, from_next n statements behind.from);
+      rise = AllPairs-cons (λ (a b : Statement). a.line < b.line) (on_line n body) statements
+          (All-from_recursion (λ (s : Statement). n < s.line) statements (behind_line n statements behind.from)) behind.rise;
+    }
+
+lines_rise : (lines : List (List ℕ)) (n : ℕ) (statements : List Statement) → AreLines n lines statements → RiseFrom n statements
+lines_rise [] n statements are = subst (RiseFrom n) (sym are) (record { from = tt; rise = λ i j d below within. absurd (omega (arith, within)) })
+lines_rise (line ∷ lines) n statements (inl h) =
+    let behind = lines_rise lines (n + 1) statements h.1 in
+    record { from = from_next n statements behind.from; rise = behind.rise }
+lines_rise (line ∷ lines) n statements (inr h) = subst (RiseFrom n) (sym h.2) (rise_behind n h.0 h.1 (lines_rise lines (n + 1) h.1 h.4))
+
+-- the lines of a query's statements rise
+pub query_rises : (lines : List (List ℕ)) (statements : List Statement) → AreLines 1 lines statements → AllPairs (λ (a b : Statement). a.line < b.line) statements
+query_rises lines statements are = (lines_rise lines 1 statements are).rise
+
+-- statements on lines are those of a query, where they are few
+pub lines_are : (lines : List (List ℕ)) (statements : List Statement) → AreLines 1 lines statements → length statements ≤ 64 → AreStatements statements
+lines_are lines statements are few = record {
+  fit = All-from_recursion (λ (s : Statement). Fits s.body) statements (lines_fit lines 1 statements are);
+  few = few;
+  rise = query_rises lines statements are;
+}
+
 pub read_fit : (lines : List (List ℕ)) (statements : List Statement) → read_lines 1 0 lines ≡ Ok statements → AreStatements statements
 read_fit lines statements e =
     let f = lines_found lines 1 0 statements (omega arith) e in
-    record { fit = All-from_recursion (λ (s : Statement). Fits s.body) statements (lines_fit lines 1 statements f.0); few = omega (arith, f.1) }
+    lines_are lines statements f.0 (omega (arith, f.1))

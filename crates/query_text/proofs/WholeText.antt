@@ -6,10 +6,11 @@ use Rattle.query_tokens.specs.Lines.{lines_of}
 use Rattle.query_text.specs.declared.statement.Statement.{Statement}
 use Rattle.query_text.specs.declared.query.ReadFault.{ReadFault}
 use Rattle.query_text.specs.declared.query.ReadFault.TheVariants as faults
+use Rattle.query_text.specs.Laws.{TextsGiveStatements}
 use Rattle.query_text.specs.Text.{IsQuery, IsFaultAt}
 use Rattle.query_text.specs.ReadText.{Spot, read_lines, read_text, GivesText, IsReason}
 use Rattle.query_text.proofs.ReaderLaw.{ok_is, err_is, ok_no_err}
-use Rattle.query_text.proofs.TextTheorem.{lines_found, lines_again, lines_fault, fault_lines}
+use Rattle.query_text.proofs.TextTheorem.{lines_are, lines_found, lines_again, lines_fault, fault_lines}
 
 text_found : (text : List ℕ) (q : List Statement) → read_text text ≡ Ok q → IsQuery text q
 text_found text q e = go (ltb 65536 (length text)) refl e
@@ -82,3 +83,8 @@ query_or_fault text = go (read_text text) refl
     go : (r : Result (List Statement) Spot) → read_text text ≡ r → ((q : List Statement) × IsQuery text q) ⊎ ((l : ℕ) × (c : ℕ) × IsFaultAt text l c)
     go (Ok q) e = inl (q, text_found text q e)
     go (Err s) e = inr (s.0, s.1, text_fault text s e)
+
+-- ---- statements
+
+pub texts_give_statements : TextsGiveStatements
+texts_give_statements text q is = lines_are (lines_of text) q is.lines is.few

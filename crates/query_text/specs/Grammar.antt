@@ -1,5 +1,5 @@
 -- Which statements a text can hold, and which tokens of a line are one.
-use Rattle.std.specs.Prelude.{◌≡◌, ℕ, ◌≤◌, List, [], ◌∷◌, ◌++◌, length, Option, Some, None, IfSome, All}
+use Rattle.std.specs.Prelude.{◌≡◌, ℕ, ◌<◌, ◌≤◌, List, [], ◌∷◌, ◌++◌, length, Option, Some, None, IfSome, All, AllPairs}
 use Rattle.std.specs.List.{AllByRecursion}
 use Rattle.query_tokens.specs.Token.{Token, IsToken}
 use Rattle.query_text.specs.declared.parts.ColumnText.{ColumnText}
@@ -61,7 +61,8 @@ pub record IsFault (tokens rest : List Token) : Type 0 where
   pub no_front : (t : Token) (after : List Token) → rest ≡ t ∷ after → IsFront (before ++ t ∷ []) → ⊥
   pub not_whole : (body : Body) → rest ≡ [] → IsStatement tokens body → ⊥
 
--- the statements of a query: at most 64, and each of them fits
+-- the statements of a query: at most 64, each of them fits, and each stands on a later line than those before it
 pub record AreStatements (statements : List Statement) : Type 0 where
   pub fit : All (λ (s : Statement). Fits s.body) statements
   pub few : length statements ≤ 64
+  pub rise : AllPairs (λ (a b : Statement). a.line < b.line) statements

@@ -29,7 +29,7 @@ mod token_list;
 mod tokens;
 
 pub use bytes::Bytes;
-pub use laws::one_reading;
+pub use laws::{one_reading, texts_give_statements};
 pub use operand::{Cmp, KindText, Op, OperandText};
 pub use parts::{AggregateText, ColumnText, ItemText, TestText};
 pub use print::print_query;
