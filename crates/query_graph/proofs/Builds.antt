@@ -2,12 +2,11 @@
 use Rattle.std.proofs.Common.{◌≡◌, ℕ, ◌+◌, ◌*◌, ◌<◌, true, [], ◌∷◌, ◌++◌, Some, None, length, sym, ap, ◌∙◌, subst, arith, length-append}
 use Rattle.query_text.specs.Grammar.{Fits}
 use Rattle.query_text.specs.declared.statement.Body.{Body}
-use Rattle.query_graph.specs.declared.graph.Graph.TheInside.{Inside}
+use Rattle.query_graph.specs.declared.draft.Draft.TheInside.{Inside}
 use Rattle.query_graph.specs.declared.node.Node.{Node}
 use Rattle.query_graph.specs.declared.node.Output.{Output}
 use Rattle.query_graph.specs.Build.{fault_of, node_of, output_of, with_node, with_output}
-use Rattle.query_graph.specs.Graph.{IsBuilt, content_of}
-use Rattle.query_graph.specs.IsGraph.{IsGraph}
+use Rattle.query_graph.specs.Draft.{IsBuilt, IsDraft, content_of}
 use Rattle.query_graph.specs.Sizes.{cells, cells_of, rows_of, sizes_fit}
 use Rattle.query_graph.specs.Columns.{columns_of}
 use Rattle.query_graph.proofs.Grown.{graph_with_node, graph_with_output}
@@ -29,7 +28,7 @@ built_node before after n high width line body built real passes none fits few i
     let content : content_of after ≡ with_node (content_of before) (node_of before.nodes line body)
     = λ i. record { nodes = (pushed ∙ ap (λ m. before.nodes ++ m ∷ []) is) i; outputs = same i } in
     record {
-      graph = subst IsGraph (sym content) (graph_with_node (content_of before) line body built.graph real passes none few);
+      graph = subst IsDraft (sym content) (graph_with_node (content_of before) line body built.graph real passes none few);
       counted = rw pushed (rw sum (counted ∙ ap (λ c. c + cells n.rows (length n.columns)) built.counted));
       few_cells = rw counted (rw built.counted (rw rows (rw wide within.1)));
       few = rw pushed (omega (arith, few, length-append before.nodes (n ∷ [])));
@@ -37,13 +36,13 @@ built_node before after n high width line body built real passes none fits few i
     }
 
 -- and with its output
-pub built_output : (before after : Inside) (o : Output) (line : ℕ) (body : Body) → IsBuilt before → fault_of (content_of before) line body ≡ None
+pub built_output : (before after : Inside) (o : Output) (line : ℕ) (body : Body) → IsBuilt before → Fits body → fault_of (content_of before) line body ≡ None
     → output_of before.nodes line body ≡ Some o → after.nodes ≡ before.nodes → after.outputs.items ≡ before.outputs.items ++ o ∷ []
     → after.cells ≡ before.cells → IsBuilt after
-built_output before after o line body built passes some same pushed counted =
+built_output before after o line body built real passes some same pushed counted =
     let content : content_of after ≡ with_output (content_of before) o = λ i. record { nodes = same i; outputs = pushed i } in
     record {
-      graph = subst IsGraph (sym content) (graph_with_output (content_of before) line body o built.graph passes some);
+      graph = subst IsDraft (sym content) (graph_with_output (content_of before) line body o built.graph real passes some);
       counted = counted ∙ (built.counted ∙ ap cells_of (sym same));
       few_cells = rw counted built.few_cells;
       few = rw same built.few;

@@ -2,8 +2,9 @@
 use Rattle.std.proofs.Common.{◌≡◌, ℕ, ◌+◌, ◌<◌, ◌≤◌, false, ◌&&◌, List, [], ◌∷◌, ◌++◌, Option, Some, None, length, map, ap, ◌∙◌, subst, arith, length-append}
 use Rattle.std.specs.Prelude.{◌≢◌, AllPairs, nat_le, ◌==◌}
 use Rattle.std.specs.List.{list_any}
-use Rattle.std.proofs.lemmas.List.Elements.{All-push}
+use Rattle.std.proofs.lemmas.List.Elements.{All-from_recursion, All-push}
 use Rattle.words.specs.declared.column.Column.{Column}
+use Rattle.query_tokens.specs.Token.{IsName}
 use Rattle.query_text.specs.Grammar.{Fits, FitsForm}
 use Rattle.query_text.specs.declared.statement.Body.{Body}
 use Rattle.query_text.specs.declared.statement.Body.TheVariants as bodies
@@ -11,13 +12,16 @@ use Rattle.query_text.specs.declared.statement.OutputText.{OutputText}
 use Rattle.query_graph.specs.declared.fault.GraphFault.TheVariants.{Kind, Shape, Size}
 use Rattle.query_graph.specs.declared.node.Node.{Node}
 use Rattle.query_graph.specs.declared.node.Output.{Output}
+use Rattle.query_graph.specs.declared.parties.Parties.{Parties}
 use Rattle.query_graph.specs.Build.{empty_graph, fault_of, name_of, node_of, operator_of, output_of, rule_of, with_node, with_output}
 use Rattle.query_graph.specs.Columns.{aggregate_column, columns_of, declared_column, item_column, key_column, other_columns, repeated_column, taken_name, taken_node}
 use Rattle.query_graph.specs.Content.{Content}
+use Rattle.query_graph.specs.Draft.{IsDraft}
 use Rattle.query_graph.specs.Faults.{first_fault, first_of, unless}
-use Rattle.query_graph.specs.IsGraph.{FitsSources, IsGraph, IsNode}
+use Rattle.query_graph.specs.IsGraph.{FitsSources, IsNode, IsOutput}
 use Rattle.query_graph.specs.Kinds.{kinds_fit}
 use Rattle.query_graph.specs.Names.{is_node, node_columns, node_number}
+use Rattle.query_graph.specs.Parties.{no_party, parties_of}
 use Rattle.query_graph.specs.Shapes.{shape_fits}
 use Rattle.query_graph.specs.Sizes.{cell_limit, cells, cells_of, column_limit, constants_fit, counts_fit, is_bound, row_limit, rows_of, sizes_fit}
 use Rattle.query_graph.specs.Used.{unknown_columns, unknown_name, unknown_node, used_nodes}
@@ -25,6 +29,7 @@ use Rattle.query_graph.proofs.Different.{names_push, outputs_push}
 use Rattle.query_graph.proofs.Faultless.{both_none, both_true, new_of, unless_none}
 use Rattle.query_graph.proofs.Invariant.{cells_of-append, le_of}
 use Rattle.query_graph.proofs.Kept.{back_some, bounded_some, concat_some, count_some, front_some, group_some, known_first, map_some, nodes_push, product_some, table_of, tables}
+use Rattle.query_graph.proofs.Named.{defined_name, named_columns, named_tables, some_recipient}
 use Rattle.query_graph.proofs.Places.{node_within}
 use Rattle.query_graph.proofs.Sources.{IsFaultless, concat_is, distinct_is, filter_is, group_is, join_is, new_columns, relation_is, select_is}
 
@@ -68,7 +73,7 @@ within graph line body passes =
     record { rows = le_of _ _ both.0; columns = le_of _ _ both.1; all = le_of _ _ last.1 }
 
 -- it has a row and a column
-some_of : (graph : Content) (line : ℕ) (body : Body) → IsGraph graph → FitsForm body → IsFaultless graph line body → output_of graph.nodes line body ≡ None
+some_of : (graph : Content) (line : ℕ) (body : Body) → IsDraft graph → FitsForm body → IsFaultless graph line body → output_of graph.nodes line body ≡ None
     → (1 ≤ rows_of graph.nodes body) × (1 ≤ length (columns_of graph.nodes body))
 some_of graph line (bodies.Relation r) is form passes none = (count_some r.rows passes.counts, map_some declared_column r.columns form.1.0)
 some_of graph line (bodies.Filter f) is form passes none =
@@ -113,7 +118,7 @@ new_of_body graph line (bodies.Group g) passes none = new_node line graph.nodes 
 new_of_body graph line (bodies.Distinct d) passes none = new_node line graph.nodes d.name _ passes.taken
 new_of_body graph line (bodies.Output o) passes none = absurd cc
 
-sources_of : (graph : Content) (line : ℕ) (body : Body) → IsGraph graph → Fits body → IsFaultless graph line body → output_of graph.nodes line body ≡ None
+sources_of : (graph : Content) (line : ℕ) (body : Body) → IsDraft graph → Fits body → IsFaultless graph line body → output_of graph.nodes line body ≡ None
     → FitsSources graph.nodes (length graph.nodes) (node_of graph.nodes line body) (operator_of graph.nodes body)
 sources_of graph line (bodies.Relation r) is fits passes none = relation_is graph line r fits.form
 sources_of graph line (bodies.Filter f) is fits passes none = filter_is graph line f fits passes
@@ -124,13 +129,15 @@ sources_of graph line (bodies.Group g) is fits passes none = group_is graph line
 sources_of graph line (bodies.Distinct d) is fits passes none = distinct_is graph line d fits.form passes
 sources_of graph line (bodies.Output o) is fits passes none = absurd cc
 
-node_is : (graph : Content) (line : ℕ) (body : Body) → IsGraph graph → Fits body → fault_of graph line body ≡ None → output_of graph.nodes line body ≡ None
+node_is : (graph : Content) (line : ℕ) (body : Body) → IsDraft graph → Fits body → fault_of graph line body ≡ None → output_of graph.nodes line body ≡ None
     → IsNode graph.nodes (length graph.nodes) (node_of graph.nodes line body)
 node_is graph line body is fits passes none =
     let faults = faultless graph line body passes in
     let limits = within graph line body passes in
     let some = some_of graph line body is fits.form faults none in
     record {
+      name = defined_name graph.nodes line body fits none;
+      column_names = All-from_recursion (λ (c : Column). IsName c.name) (columns_of graph.nodes body) (named_columns graph.nodes body (named_tables graph is) fits);
       some_rows = some.0;
       few_rows = limits.rows;
       some_columns = some.1;
@@ -139,8 +146,8 @@ node_is graph line body is fits passes none =
       sources = sources_of graph line body is fits faults none;
     }
 
-pub graph_with_node : (graph : Content) (line : ℕ) (body : Body) → IsGraph graph → Fits body → fault_of graph line body ≡ None → output_of graph.nodes line body ≡ None
-    → length graph.nodes < 4294967295 → IsGraph (with_node graph (node_of graph.nodes line body))
+pub graph_with_node : (graph : Content) (line : ℕ) (body : Body) → IsDraft graph → Fits body → fault_of graph line body ≡ None → output_of graph.nodes line body ≡ None
+    → length graph.nodes < 4294967295 → IsDraft (with_node graph (node_of graph.nodes line body))
 graph_with_node graph line body is fits passes none few =
     let n = node_of graph.nodes line body in
     let longer = length-append graph.nodes (n ∷ []) in
@@ -150,7 +157,7 @@ graph_with_node graph line body is fits passes none few =
       few_cells = rw (cells_of-append graph.nodes n) limits.all;
       names = names_push graph.nodes n is.names (new_of_body graph line body (faultless graph line body passes) none).0;
       nodes = nodes_push graph.nodes n is.nodes (node_is graph line body is fits passes none);
-      outputs = λ i o within. let old = is.outputs i o within in omega (arith, old, longer);
+      outputs = λ i o within. let old = is.outputs i o within in record { node = omega (arith, old.node, longer); some = old.some };
       different_outputs = is.different_outputs;
     }
 
@@ -162,16 +169,24 @@ node_of_output : (graph : Content) (line : ℕ) (w : OutputText) (o : Output) �
 unfolding node_in
 node_of_output graph line w o some = ap node_in some
 
-pub graph_with_output : (graph : Content) (line : ℕ) (body : Body) (o : Output) → IsGraph graph → fault_of graph line body ≡ None → output_of graph.nodes line body ≡ Some o
-    → IsGraph (with_output graph o)
-graph_with_output graph line (bodies.Relation r) o is passes some = absurd cc
-graph_with_output graph line (bodies.Filter f) o is passes some = absurd cc
-graph_with_output graph line (bodies.Select s) o is passes some = absurd cc
-graph_with_output graph line (bodies.Concat c) o is passes some = absurd cc
-graph_with_output graph line (bodies.Join j) o is passes some = absurd cc
-graph_with_output graph line (bodies.Group g) o is passes some = absurd cc
-graph_with_output graph line (bodies.Distinct d) o is passes some = absurd cc
-graph_with_output graph line (bodies.Output w) o is passes some =
+recipients_in : Option Output → Parties
+recipients_in None = no_party
+recipients_in (Some o) = o.recipients
+
+recipients_of_output : (graph : Content) (line : ℕ) (w : OutputText) (o : Output) → output_of graph.nodes line (bodies.Output w) ≡ Some o → parties_of w.recipients ≡ o.recipients
+unfolding recipients_in
+recipients_of_output graph line w o some = ap recipients_in some
+
+pub graph_with_output : (graph : Content) (line : ℕ) (body : Body) (o : Output) → IsDraft graph → Fits body → fault_of graph line body ≡ None → output_of graph.nodes line body ≡ Some o
+    → IsDraft (with_output graph o)
+graph_with_output graph line (bodies.Relation r) o is fits passes some = absurd cc
+graph_with_output graph line (bodies.Filter f) o is fits passes some = absurd cc
+graph_with_output graph line (bodies.Select s) o is fits passes some = absurd cc
+graph_with_output graph line (bodies.Concat c) o is fits passes some = absurd cc
+graph_with_output graph line (bodies.Join j) o is fits passes some = absurd cc
+graph_with_output graph line (bodies.Group g) o is fits passes some = absurd cc
+graph_with_output graph line (bodies.Distinct d) o is fits passes some = absurd cc
+graph_with_output graph line (bodies.Output w) o is fits passes some =
     let faults = faultless graph line (bodies.Output w) passes in
     let node : node_number graph.nodes w.node ≡ o.node = node_of_output graph line w o some in
     let earlier = node_within graph.nodes w.node (known_first line graph.nodes w.node [] faults.nodes) in
@@ -180,12 +195,15 @@ graph_with_output graph line (bodies.Output w) o is passes some =
       few_cells = is.few_cells;
       names = is.names;
       nodes = is.nodes;
-      outputs = All-push (λ (p : Output). p.node < length graph.nodes) graph.outputs o is.outputs (subst (λ s. s < length graph.nodes) node earlier);
+      outputs = All-push (IsOutput graph.nodes) graph.outputs o is.outputs (record {
+        node = subst (λ s. s < length graph.nodes) node earlier;
+        some = subst (λ set. set ≢ no_party) (recipients_of_output graph line w o some) (some_recipient w.recipients fits.form.0 fits.form.1);
+      });
       different_outputs = outputs_push graph.outputs o is.different_outputs
           (subst (λ s. list_any (λ (p : Output). p.node == s) graph.outputs ≡ false) node (new_of _ _ faults.taken));
     }
 
-pub empty_is : IsGraph empty_graph
+pub empty_is : IsDraft empty_graph
 empty_is = record {
   few = omega arith;
   few_cells = omega arith;

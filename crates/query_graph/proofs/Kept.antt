@@ -16,8 +16,9 @@ use Rattle.query_graph.specs.declared.operator.Operator.{Operator}
 use Rattle.query_graph.specs.declared.operator.Operator.TheVariants as operators
 use Rattle.query_graph.specs.Columns.{first_columns}
 use Rattle.query_graph.specs.Content.{Content}
+use Rattle.query_graph.specs.Draft.{IsDraft}
 use Rattle.query_graph.specs.Faults.{first_fault}
-use Rattle.query_graph.specs.IsGraph.{FitsSources, IsConcat, IsDistinctOf, IsFilter, IsGraph, IsGroup, IsJoin, IsNode, IsSelect, IsSource, rows_at}
+use Rattle.query_graph.specs.IsGraph.{FitsSources, IsConcat, IsDistinctOf, IsFilter, IsGroup, IsJoin, IsNode, IsSelect, IsSource, rows_at}
 use Rattle.query_graph.specs.Names.{is_node, node_columns, node_rows}
 use Rattle.query_graph.specs.Sizes.{bounded, bounded_parts, group_rows, is_bound, is_row_count}
 use Rattle.query_graph.specs.Used.{unknown_node}
@@ -87,6 +88,8 @@ sources_kept nodes more i n (operators.Distinct d) few fits = same_source nodes 
 
 node_kept : (nodes more : List Node) (i : ℕ) (n : Node) → i ≤ length nodes → IsNode nodes i n → IsNode (nodes ++ more) i n
 node_kept nodes more i n few is = record {
+  name = is.name;
+  column_names = is.column_names;
   some_rows = is.some_rows;
   few_rows = is.few_rows;
   some_columns = is.some_columns;
@@ -122,7 +125,7 @@ nodes_push nodes n each last i m is = either_node nodes n m i each last (place_o
 
 -- ---- rows and columns of a statement's node
 
-pub tables : (graph : Content) → IsGraph graph → AllByRecursion (λ (n : Node). IsTable n.columns n.rows) graph.nodes
+pub tables : (graph : Content) → IsDraft graph → AllByRecursion (λ (n : Node). IsTable n.columns n.rows) graph.nodes
 tables graph is = recursion_from_All (λ (n : Node). IsTable n.columns n.rows) graph.nodes
     (λ i d within. let n = is.nodes i (get_or graph.nodes i d) (slice_get-get_or graph.nodes i d within) in (n.some_rows, n.some_columns, n.different))
 
@@ -144,12 +147,12 @@ count_some rows fits = grind (arith, nat_tests)
 pub known_first : (line : ℕ) (nodes : List Node) (name : List ℕ) (others : List (List ℕ)) → first_fault (unknown_node line nodes) (name ∷ others) ≡ None → is_node nodes name ≡ true
 known_first line nodes name others passes = known_of _ _ (both_none (unknown_node line nodes name) (first_fault (unknown_node line nodes) others) passes).0
 
-pub table_of : (graph : Content) (line : ℕ) (name : List ℕ) (others : List (List ℕ)) → IsGraph graph → first_fault (unknown_node line graph.nodes) (name ∷ others) ≡ None
+pub table_of : (graph : Content) (line : ℕ) (name : List ℕ) (others : List (List ℕ)) → IsDraft graph → first_fault (unknown_node line graph.nodes) (name ∷ others) ≡ None
     → IsTable (node_columns graph.nodes name) (node_rows graph.nodes name)
 table_of graph line name others is known = of_known_node IsTable graph.nodes name (known_first line graph.nodes name others known) (tables graph is)
 
 -- a list with two names or more begins with one
-pub concat_some : (graph : Content) (line : ℕ) (names : List (List ℕ)) → IsGraph graph → 2 ≤ length names → first_fault (unknown_node line graph.nodes) names ≡ None
+pub concat_some : (graph : Content) (line : ℕ) (names : List (List ℕ)) → IsDraft graph → 2 ≤ length names → first_fault (unknown_node line graph.nodes) names ≡ None
     → (1 ≤ sum (map (node_rows graph.nodes) names)) × (1 ≤ length (first_columns graph.nodes names))
 concat_some graph line [] is some known = absurd (omega (arith, some))
 concat_some graph line (name ∷ names) is some known =

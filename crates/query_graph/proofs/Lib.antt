@@ -10,8 +10,11 @@ pub mod Different
 pub mod Widths
 pub mod Sources
 pub mod Kept
+pub mod Named
 pub mod Grown
 pub mod Builds
 pub mod Lines
 pub mod Made
+pub mod Finished
+pub mod TextGraphs
 pub mod Numbered

@@ -47,7 +47,7 @@ named_kept [] more s name is = absurd is
 named_kept (n ∷ nodes) more zero name is = is
 named_kept (n ∷ nodes) more (suc s) name is = named_kept nodes more s name is
 
-zip_kept : {A B : Type 0} (P Q : A → B → Type 0) → ((x : A) (y : B) → P x y → Q x y) → (xs : List A) (ys : List B) → AllZip P xs ys → AllZip Q xs ys
+pub zip_kept : {A B : Type 0} (P Q : A → B → Type 0) → ((x : A) (y : B) → P x y → Q x y) → (xs : List A) (ys : List B) → AllZip P xs ys → AllZip Q xs ys
 zip_kept P Q each [] [] all = tt
 zip_kept P Q each [] (y ∷ ys) all = absurd all
 zip_kept P Q each (x ∷ xs) [] all = absurd all
@@ -66,7 +66,7 @@ node_of_kept : (nodes more : List Node) (s : Statement) (n : Node) → IsNodeOf 
 node_of_kept nodes more s n is = record { name = is.name; line = is.line; sources = all_named_kept nodes more (sources_of n.shape) (used_nodes s.body) is.sources }
 
 output_of_kept : (nodes more : List Node) (s : Statement) (o : Output) → IsOutputOf nodes s o → IsOutputOf (nodes ++ more) s o
-output_of_kept nodes more s o is = record { line = is.line; node = all_named_kept nodes more (o.node ∷ []) (used_nodes s.body) is.node }
+output_of_kept nodes more s o is = record { line = is.line; recipients = is.recipients; node = all_named_kept nodes more (o.node ∷ []) (used_nodes s.body) is.node }
 
 known_names : (graph : Content) (line : ℕ) (body : Body) → fault_of graph line body ≡ None → first_fault (unknown_node line graph.nodes) (used_nodes body) ≡ None
 known_names graph line body passes =
@@ -117,7 +117,7 @@ step_body graph done line (bodies.Group g) made passes =
 step_body graph done line (bodies.Distinct d) made passes =
     with_kept graph done (record { line = line; body = bodies.Distinct d }) made refl _ (record { name = refl; line = refl; sources = names_known line graph.nodes (d.source ∷ []) (known_names graph line (bodies.Distinct d) passes) })
 step_body graph done line (bodies.Output o) made passes =
-    with_last graph done (record { line = line; body = bodies.Output o }) made refl _ (record { line = refl; node = names_known line graph.nodes (o.node ∷ []) (known_names graph line (bodies.Output o) passes) })
+    with_last graph done (record { line = line; body = bodies.Output o }) made refl _ (record { line = refl; recipients = refl; node = names_known line graph.nodes (o.node ∷ []) (known_names graph line (bodies.Output o) passes) })
 
 -- what an answer for statements says
 record Answers (statements : List Statement) (answer : Result Content GraphFault) : Type 0 where

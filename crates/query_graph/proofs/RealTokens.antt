@@ -15,11 +15,11 @@ use Rattle.query_text.specs.declared.statement.SelectText.{SelectText}
 abbrev pub AreReal : List Token → Type 0
 AreReal tokens = AllByRecursion IsToken tokens
 
-real_front : (front back : List Token) → AreReal (front ++ back) → AreReal front
+pub real_front : (front back : List Token) → AreReal (front ++ back) → AreReal front
 real_front [] back real = tt
 real_front (t ∷ front) back real = (real.0, real_front front back real.1)
 
-real_back : (front back : List Token) → AreReal (front ++ back) → AreReal back
+pub real_back : (front back : List Token) → AreReal (front ++ back) → AreReal back
 real_back [] back real = real
 real_back (t ∷ front) back real = real_back front back real.1
 
@@ -28,7 +28,7 @@ real_led separator spell [] real = tt
 real_led separator spell (x ∷ xs) real =
     (real_front (spell x) (led separator spell xs) real.1, real_led separator spell xs (real_back (spell x) (led separator spell xs) real.1))
 
-real_separated : {A : Type 0} (separator : Token) (spell : A → List Token) (xs : List A) → AreReal (separated separator spell xs) → AllByRecursion (λ x. AreReal (spell x)) xs
+pub real_separated : {A : Type 0} (separator : Token) (spell : A → List Token) (xs : List A) → AreReal (separated separator spell xs) → AllByRecursion (λ x. AreReal (spell x)) xs
 real_separated separator spell [] real = tt
 real_separated separator spell (x ∷ xs) real =
     (real_front (spell x) (led separator spell xs) real, real_led separator spell xs (real_back (spell x) (led separator spell xs) real))

@@ -6,6 +6,7 @@ use Rattle.words.specs.Texts.{text_of}
 use Rattle.words.specs.declared.column.Column.{Column}
 use Rattle.words.specs.declared.column.Kind.{Kind}
 use Rattle.words.specs.declared.column.Kind.TheVariants.{Num, Text, Flag}
+use Rattle.query_tokens.specs.Token.{IsName}
 use Rattle.query_text.specs.Grammar.{IsFilled, IsMaybeParty, IsNotBoth}
 use Rattle.query_text.specs.Parties.{IsParty}
 use Rattle.query_text.specs.declared.operand.Op.{Op}
@@ -30,6 +31,7 @@ use Rattle.query_graph.specs.declared.operator.Operator.{Operator}
 use Rattle.query_graph.specs.declared.operator.Operator.TheVariants as operators
 use Rattle.query_graph.specs.Content.{Content}
 use Rattle.query_graph.specs.Kinds.{result_kind}
+use Rattle.query_graph.specs.Parties.{no_party}
 use Rattle.query_graph.specs.Sizes.{bounded, cell_limit, cells_of, column_limit, group_rows, is_bound, row_limit}
 
 -- the kind of the column with this number
@@ -169,8 +171,11 @@ FitsSources nodes i n (operators.Join j) =
 FitsSources nodes i n (operators.Group g) = IsSource nodes i g.source (λ columns rows. IsGroup columns rows n g)
 FitsSources nodes i n (operators.Distinct d) = IsSource nodes i d.source (λ columns rows. IsDistinctOf columns rows n d)
 
--- the node with this number: its size is within the limits, and it uses earlier nodes as they are
+-- the node with this number: its name and those of its columns are names, its size is within the limits, and it
+-- uses earlier nodes as they are
 pub record IsNode (nodes : List Node) (i : ℕ) (n : Node) : Type 0 where
+  pub name : IsName n.name
+  pub column_names : All (λ column. IsName column.name) n.columns
   pub some_rows : 1 ≤ n.rows
   pub few_rows : n.rows ≤ row_limit
   pub some_columns : 1 ≤ length n.columns
@@ -178,11 +183,24 @@ pub record IsNode (nodes : List Node) (i : ℕ) (n : Node) : Type 0 where
   pub different : AllPairs (λ a b. a.name ≢ b.name) n.columns
   pub sources : FitsSources nodes i n n.shape
 
+-- an output of one of these nodes, to some party
+pub record IsOutput (nodes : List Node) (o : Output) : Type 0 where
+  pub node : o.node < length nodes
+  pub some : o.recipients ≢ no_party
+
+-- each node stands on a later line than those before it, each output does, and none of both on one line
+pub record HasRisingLines (graph : Content) : Type 0 where
+  pub nodes : AllPairs (λ a b. a.line < b.line) graph.nodes
+  pub outputs : AllPairs (λ a b. a.line < b.line) graph.outputs
+  pub apart : All (λ (n : Node). All (λ (o : Output). n.line ≢ o.line) graph.outputs) graph.nodes
+
 -- every graph
 pub record IsGraph (graph : Content) : Type 0 where
-  pub few : length graph.nodes < 2 ^ 32
+  pub few : length graph.nodes ≤ 63
   pub few_cells : cells_of graph.nodes ≤ cell_limit
   pub names : AllPairs (λ a b. a.name ≢ b.name) graph.nodes
   pub nodes : (i : ℕ) (n : Node) → slice_get graph.nodes i ≡ Some n → IsNode graph.nodes i n
-  pub outputs : All (λ (o : Output). o.node < length graph.nodes) graph.outputs
+  pub some_output : 1 ≤ length graph.outputs
+  pub outputs : All (IsOutput graph.nodes) graph.outputs
   pub different_outputs : AllPairs (λ a b. a.node ≢ b.node) graph.outputs
+  pub lines : HasRisingLines graph

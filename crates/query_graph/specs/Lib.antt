@@ -11,6 +11,8 @@ pub mod Shapes
 pub mod Operators
 pub mod Build
 pub mod IsGraph
+pub mod Draft
 pub mod Graph
 pub mod Statements
+pub mod TextGraph
 pub mod Laws

@@ -12,6 +12,7 @@ use Rattle.query_graph.specs.declared.operator.Operator.{Operator}
 use Rattle.query_graph.specs.declared.operator.Operator.TheVariants as operators
 use Rattle.query_graph.specs.Build.{empty_graph, fault_of, name_of, with_statement}
 use Rattle.query_graph.specs.Content.{Content}
+use Rattle.query_graph.specs.Parties.{parties_of}
 use Rattle.query_graph.specs.Used.{used_nodes}
 
 abbrev pub is_output_body : Body → Bool
@@ -47,9 +48,22 @@ pub record IsNodeOf (nodes : List Node) (s : Statement) (n : Node) : Type 0 wher
   pub line : n.line ≡ s.line
   pub sources : AllZip (IsNamed nodes) (sources_of n.shape) (used_nodes s.body)
 
+-- the parties to which a statement writes rows; an output alone does
+abbrev pub recipients_of : Body → List ℕ
+recipients_of (bodies.Relation r) = []
+recipients_of (bodies.Filter f) = []
+recipients_of (bodies.Select s) = []
+recipients_of (bodies.Concat c) = []
+recipients_of (bodies.Join j) = []
+recipients_of (bodies.Group g) = []
+recipients_of (bodies.Distinct d) = []
+recipients_of (bodies.Output o) = o.recipients
+
+-- the output of a statement: its line, the node that it names, and the parties that it writes
 pub record IsOutputOf (nodes : List Node) (s : Statement) (o : Output) : Type 0 where
   pub line : o.line ≡ s.line
   pub node : AllZip (IsNamed nodes) (o.node ∷ []) (used_nodes s.body)
+  pub recipients : o.recipients ≡ parties_of (recipients_of s.body)
 
 -- the nodes are those of the statements that aren't outputs, in order, and the outputs those of the others
 pub record IsMadeOf (statements : List Statement) (graph : Content) : Type 0 where

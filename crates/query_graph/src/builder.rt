@@ -4,9 +4,11 @@
 ghost use Rattle.std.specs.Prelude.{All, IfErr, IfOk};
 ghost use Rattle.query_text.specs.Grammar.{Fits};
 ghost use Rattle.query_graph.specs.Build.{Gives, graph_of};
+ghost use Rattle.query_graph.specs.Draft.{IsDraft};
 ghost use Rattle.query_graph.specs.IsGraph.{IsGraph};
 ghost use Rattle.query_graph.specs.Statements.{IsFaultOf, IsGraphOf};
 
+use crate::draft::Draft;
 use crate::fault::GraphFault;
 use crate::graph::Graph;
 use query_text::{Query, Statement};
@@ -22,22 +24,23 @@ pub fn build(alloc: Global, query: &Query) -> Result<Graph, GraphFault>
     ensures graph { IfOk result (λ graph. IsGraph graph) }
     ensures first { IfErr result (λ fault. IsFaultOf query.now fault) }
 {
-    graph_of_statements(alloc, query.statements.as_slice())
+    let draft = draft_of(alloc, query.statements.as_slice())?;
+    Ok(Graph::new(draft))
 }
 
-// The graph of these statements, or the first rule that fails.
+// The nodes and outputs of these statements, or the first rule that fails.
 #[tactic(auto, using(crate::proofs::GraphSteps::statement_passes, crate::proofs::GraphSteps::statement_fails))]
-fn graph_of_statements(alloc: Global, statements: &[Statement]) -> Result<Graph, GraphFault>
+fn draft_of(alloc: Global, statements: &[Statement]) -> Result<Draft, GraphFault>
     requires fit { All (λ s. Fits s.body) statements.now }
     ensures exact { Gives result (graph_of statements.now) }
-    ensures graph { IfOk result (λ graph. IsGraph graph) }
+    ensures draft { IfOk result (λ draft. IsDraft draft) }
 {
-    let mut graph = Graph::new(alloc);
+    let mut draft = Draft::new(alloc);
     for statement in statements {
-        graph.add(alloc, statement.line, &statement.body)?;
+        draft.add(alloc, statement.line, &statement.body)?;
     }
-    if graph.outputs().is_empty() {
+    if draft.has_no_output() {
         return Err(GraphFault::NoOutput);
     }
-    Ok(graph)
+    Ok(draft)
 }

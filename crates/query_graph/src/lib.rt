@@ -8,6 +8,7 @@
 
 mod builder;
 mod columns;
+mod draft;
 mod fault;
 mod flag;
 mod graph;
@@ -36,7 +37,7 @@ pub use builder::build;
 pub use fault::GraphFault;
 pub use flag::Flag;
 pub use graph::Graph;
-pub use laws::names_are_numbers;
+pub use laws::{names_are_numbers, texts_have_graphs};
 pub use node::{Node, Output};
 pub use operand::{Aggregate, Item, Operand, Test};
 pub use operator::{Concat, Distinct, Filter, Group, Join, Operator, Relation, Select};

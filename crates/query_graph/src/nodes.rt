@@ -49,11 +49,11 @@ impl Nodes {
         }
     }
 
-    /// The nodes, in the order of the text.
-    pub(crate) fn list(&self) -> &Vec<Node>
-        ensures { result.now.items ≡ self.now }
+    /// The nodes without their tables.
+    pub(crate) fn into_list(self) -> Vec<Node>
+        ensures { result.items ≡ self }
     {
-        &self.list
+        self.list
     }
 
     /// How many nodes there are.

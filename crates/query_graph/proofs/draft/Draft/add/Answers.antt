@@ -31,5 +31,5 @@ pub invariant_of-self-in-Some : goal.invariant_of-self-in-Some
 invariant_of-self-in-Some c =
     let outputs = c.as_slice-outputs.ensures.value in
     let passes = no_fault (content_of c.self.inside) c.args.line c.args.body.now c.in_ok-check_known.ensures (rw outputs at c.in_ok-names.ensures.rules) in
-    built_output c.self.inside _ c.in-Some.output c.args.line c.args.body.now c.self.invariant passes
+    built_output c.self.inside _ c.in-Some.output c.args.line c.args.body.now c.self.invariant c.requires.fits passes
     (sym c.in-Some.ensures) refl c.in_ok-push.ensures.items refl

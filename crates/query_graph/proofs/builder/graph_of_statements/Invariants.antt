@@ -1,7 +1,0 @@
-use Rattle.std.proofs.Common.{◌≡◌, drop}
-use Rattle.query_graph.specs.Build.{graph_behind, graph_of}
-use Rattle.query_graph.proofs.builder.graph_of_statements.Given as goal
-
--- the graph of all is that of the rest behind the graph so far
-abbrev pub invariant-loop-statement : goal.invariant-loop-statement
-invariant-loop-statement l = graph_of l.statements ≡ graph_behind l.graph (drop l.statement-index l.statements)
