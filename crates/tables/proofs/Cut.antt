@@ -1,8 +1,8 @@
 -- Rows that are cut from cells: their number, the one at a place, their lengths, and one more.
-use Rattle.std.proofs.Common.{◌≡◌, ℕ, zero, suc, ◌+◌, ◌*◌, ◌<◌, ◌≤◌, List, [], ◌∷◌, ◌++◌, Some, take, drop, length, refl, sym, ap, ◌∙◌, arith, length-drop}
+use Rattle.std.proofs.Common.{◌≡◌, ℕ, zero, suc, ◌+◌, ◌*◌, ◌^◌, ◌<◌, ◌≤◌, List, [], ◌∷◌, ◌++◌, Some, take, drop, length, refl, sym, ap, ◌∙◌, arith, length-drop}
 use Rattle.std.proofs.Math.Nat.{zero-mul, suc-mul, mul-le-mul_right}
 use Rattle.std.proofs.lemmas.List.{take-append-le, drop-append-le, drop-drop, length-take-le, take_all}
-use Rattle.std.proofs.lemmas.List.Elements.{All-nil, All-cons}
+use Rattle.std.proofs.lemmas.List.Elements.{All-nil, All-cons, All-take, All-drop}
 use Rattle.std.specs.Prelude.{All, slice_get}
 use Rattle.tables.specs.Table.{rows_cut}
 
@@ -57,3 +57,11 @@ All-rows_cut width zero cells filled = All-nil (λ row. length row ≡ width)
 All-rows_cut width (suc count) cells filled =
     let rest = rest_filled width count cells filled in
     All-cons (λ row. length row ≡ width) _ _ (length-take-le width cells rest.0) (All-rows_cut width count (drop width cells) rest.1)
+
+-- and of words, where the cells are
+pub words-rows_cut : (width count : ℕ) (cells : List ℕ) → All (λ word. word < 2 ^ 64) cells → All (λ row. All (λ word. word < 2 ^ 64) row) (rows_cut width count cells)
+unfolding rows_cut
+words-rows_cut width zero cells words = All-nil (λ row. All (λ word. word < 2 ^ 64) row)
+words-rows_cut width (suc count) cells words =
+    All-cons (λ row. All (λ word. word < 2 ^ 64) row) _ _ (All-take (λ word. word < 2 ^ 64) width cells words)
+    (words-rows_cut width count (drop width cells) (All-drop (λ word. word < 2 ^ 64) width cells words))

@@ -1,5 +1,5 @@
 -- What contracts see of a table.
-use Rattle.std.specs.Prelude.{◌≡◌, ℕ, List, [], ◌∷◌, ◌++◌, length, All}
+use Rattle.std.specs.Prelude.{◌≡◌, ℕ, ◌<◌, ◌^◌, List, [], ◌∷◌, ◌++◌, length, All}
 use Rattle.words.specs.declared.column.Column.{Column}
 
 -- columns, and rows of words
@@ -14,3 +14,7 @@ with_row table row = record { columns = table.columns; rows = table.rows ++ row 
 -- each row is as long as the columns
 abbrev pub IsRectangular : Content → Type 0
 IsRectangular table = All (λ row. length row ≡ length table.columns) table.rows
+
+-- each row is a list of words, numbers below 2^64
+abbrev pub HasWords : Content → Type 0
+HasWords table = All (λ row. All (λ word. word < 2 ^ 64) row) table.rows

@@ -1,5 +1,5 @@
 -- The table that a file's bytes are under a declaration, or why they are none.
-use Rattle.std.specs.Prelude.{◌≢◌, ℕ, ◌+◌, ◌==◌, nat_lt, All, Bool, if◌then◌else◌, List, [], ◌∷◌, Option, Some, None, Result, Ok, Err, length}
+use Rattle.std.specs.Prelude.{◌≡◌, ◌≢◌, ℕ, ◌+◌, ◌≤◌, ◌==◌, nat_lt, All, Bool, if◌then◌else◌, List, [], ◌∷◌, Option, Some, None, Result, Ok, Err, length}
 use Rattle.std.specs.Cmp.Lexicographic.{pointwise}
 use Rattle.std.specs.Str.{bytes_eq}
 use Rattle.csv.specs.Reading.{default_config, records, strip_bom}
@@ -9,7 +9,7 @@ use Rattle.words.specs.declared.column.Kind.{Kind}
 use Rattle.words.specs.declared.column.Kind.TheVariants.{Flag}
 use Rattle.words.specs.declared.num.ValueFault.{ValueFault}
 use Rattle.tables.specs.Outcome.{and_then, map_ok}
-use Rattle.tables.specs.Content.{Content}
+use Rattle.tables.specs.Content.{Content, HasWords, IsRectangular}
 use Rattle.tables.specs.declared.fault.TableFault.{TableFault}
 use Rattle.tables.specs.declared.fault.TableFault.TheVariants.{Header, Rows, Fields, Value}
 
@@ -82,3 +82,14 @@ table_in columns declared bytes = table_of columns declared (records default_con
 -- no column is one of flags, which files don't have
 abbrev pub HasNoFlag : List Column → Type 0
 HasNoFlag columns = All (λ column. column.kind ≢ Flag) columns
+
+-- a table of these columns and of at most so many rows, each of which is as long as the columns and of words
+pub record FitsDeclaration (columns : List Column) (declared : ℕ) (table : Content) : Type 0 where
+  pub same : table.columns ≡ columns
+  pub few : length table.rows ≤ declared
+  pub wide : IsRectangular table
+  pub words : HasWords table
+
+-- the table of a file's bytes is one of its declaration
+abbrev pub ReadTablesFit : Type 0
+ReadTablesFit = (columns : List Column) (declared : ℕ) (bytes : List ℕ) (table : Content) → table_in columns declared bytes ≡ Ok table → FitsDeclaration columns declared table

@@ -1,5 +1,5 @@
 -- How the cells of a table in memory are its rows.
-use Rattle.std.specs.Prelude.{◌≡◌, ℕ, zero, suc, ◌*◌, List, [], ◌∷◌, take, drop, length}
+use Rattle.std.specs.Prelude.{◌≡◌, ℕ, zero, suc, ◌*◌, ◌<◌, ◌^◌, List, [], ◌∷◌, take, drop, length, All}
 use Rattle.tables.specs.Content.{Content}
 use Rattle.tables.specs.declared.table.Table.TheInside.{Inside}
 
@@ -13,6 +13,7 @@ abbrev pub content_of : Inside → Content
 content_of table =
     record { columns = table.columns.items; rows = rows_cut (length table.columns.items) table.count table.cells.items }
 
--- there is one cell for each row and column
-abbrev pub IsFilled : Inside → Type 0
-IsFilled table = length table.cells.items ≡ table.count * length table.columns.items
+-- there is one cell for each row and column, and each cell is a word
+pub record IsFilled (table : Inside) : Type 0 where
+  pub full : length table.cells.items ≡ table.count * length table.columns.items
+  pub words : All (λ word. word < 2 ^ 64) table.cells.items

@@ -23,7 +23,7 @@ use words::{Column, Kind, unpack_text};
 pub fn answer_text(alloc: Global, table: &Table) -> Result<Vec<u8>, AllocError>
     ensures text { IfOk result (λ text. text.items ≡ answer_of table.now) }
 {
-    let mut rows = lent_rows(alloc, table)?;
+    let mut rows = table.lent_rows(alloc)?;
     sort_rows(&mut rows);
     write_rows(alloc, table.columns().as_slice(), rows.as_slice())
 }
@@ -32,17 +32,6 @@ pub fn answer_text(alloc: Global, table: &Table) -> Result<Vec<u8>, AllocError>
 pub fn answers_of_equal_bags()
     ensures { AnswersOfEqualBags }
 {}
-
-// The rows of a table, in its order.
-fn lent_rows<'a>(alloc: Global, table: &'a Table) -> Result<Vec<&'a [u64]>, AllocError>
-    ensures { IfOk result (λ rows. map (λ row. row.now) rows.items ≡ table.now.rows) }
-{
-    let mut rows = Vec::with_capacity(alloc, table.rows())?;
-    for index in 0..table.rows() {
-        rows.push(table.row(index))?;
-    }
-    Ok(rows)
-}
 
 // The header and the rows as they come.
 fn write_rows(alloc: Global, columns: &[Column], rows: &[&[u64]]) -> Result<Vec<u8>, AllocError>

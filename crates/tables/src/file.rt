@@ -4,7 +4,7 @@
 ghost use Rattle.std.specs.Prelude.{◌≡◌};
 ghost use Rattle.csv.specs.Reading.{default_config, records, strip_bom};
 ghost use Rattle.tables.specs.Outcome.{Gives};
-ghost use Rattle.tables.specs.File.{HasNoFlag, table_in, table_under};
+ghost use Rattle.tables.specs.File.{HasNoFlag, ReadTablesFit, table_in, table_under};
 ghost use Rattle.tables.specs.Records.{IsReading, unread};
 
 use crate::reading::{check_count, next_record};
@@ -38,6 +38,13 @@ pub fn read_table(
     }
     read_rows(alloc, &mut reader, &mut fields, columns, declared)
 }
+
+/// A law: the table that a file's bytes are under a declaration has its columns and at most its rows, and each row is
+/// as long as the columns and of words below 2^64.
+#[tactic(auto, using(crate::proofs::ReadTables::read_tables_fit))]
+pub fn read_tables_fit()
+    ensures { ReadTablesFit }
+{}
 
 // A reader of the records of the bytes, of any number of fields and none of them headers.
 fn open(alloc: Global, bytes: &[u8]) -> Reader<&[u8]>

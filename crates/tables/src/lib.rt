@@ -15,5 +15,5 @@ mod table;
 
 pub use answer::{answer_text, answers_of_equal_bags};
 pub use fault::{TableFault, fault_text};
-pub use file::read_table;
+pub use file::{read_table, read_tables_fit};
 pub use table::Table;

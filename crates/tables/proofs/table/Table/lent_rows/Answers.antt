@@ -1,7 +1,7 @@
 use Rattle.std.proofs.Common.{ℕ, Bor, List, [], ◌∷◌, ◌++◌, map, ap, sym, ◌∙◌}
 use Rattle.std.proofs.lemmas.List.{map-append}
 use Rattle.tables.proofs.AnswerText.{take_found}
-use Rattle.tables.proofs.answer.lent_rows.Goals as goal
+use Rattle.tables.proofs.table.Table.lent_rows.Goals as goal
 
 pub loop-index-preserved : goal.loop-index-preserved
 loop-index-preserved c =
