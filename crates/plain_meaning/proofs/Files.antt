@@ -1,11 +1,12 @@
 -- The tables of a graph's relations.
 use Rattle.std.proofs.Common.{◌≡◌, ℕ, zero, suc, ◌≤◌, List, [], ◌∷◌, drop, map, length, sym, ap, subst, arith, rules, tests}
 use Rattle.std.specs.Prelude.{◌↔◌, IsTrue, nat_eq}
-use Rattle.std.specs.List.{All, AllZip}
+use Rattle.std.specs.List.{All, AllByRecursion, AllZip}
 use Rattle.std.proofs.lemmas.List.{drop_all}
-use Rattle.tables.specs.Content.{Content}
+use Rattle.std.proofs.lemmas.List.Elements.{All-from_recursion}
+use Rattle.tables.specs.Content.{Content, HasWords}
 use Rattle.query_graph.specs.declared.node.Node.{Node}
-use Rattle.plain_meaning.specs.Fits.{AreFiles, AreRowsOf, IsFileOf, IsWorldOf, relations}
+use Rattle.plain_meaning.specs.Fits.{AreFiles, AreOfWords, AreRowsOf, IsFileOf, IsWorldOf, relations}
 
 -- no relation is left exactly where no table is left
 none_left : (tables : List Content) (number : ℕ) → number ≤ length tables → IsTrue (nat_eq number (length tables)) ↔ AllZip IsFileOf [] (drop number tables)
@@ -32,8 +33,18 @@ all_rows : (nodes : List Node) (files : List Content) → AllZip IsFileOf nodes 
 all_rows [] [] h = h
 all_rows [] (t ∷ files) h = absurd h
 all_rows (n ∷ nodes) [] h = absurd h
-all_rows (n ∷ nodes) (t ∷ files) h = (record { wide = subst (λ columns. All (λ row. length row ≡ length columns) t.rows) h.0.columns h.0.rectangular; few = h.0.rows }, all_rows nodes files h.1)
+all_rows (n ∷ nodes) (t ∷ files) h = (record { wide = subst (λ columns. All (λ row. length row ≡ length columns) t.rows) h.0.columns h.0.rectangular; few = h.0.rows; words = h.0.words }, all_rows nodes files h.1)
 
 -- the rows of a graph's files are a world of it
 pub world_of_files : (nodes : List Node) (files : List Content) → AreFiles nodes files → IsWorldOf nodes (map (λ t. t.rows) files)
 world_of_files nodes files h = all_rows (relations nodes) files h
+
+all_words : (nodes : List Node) (files : List Content) → AllZip IsFileOf nodes files → AllByRecursion HasWords files
+all_words [] [] h = tt
+all_words [] (t ∷ files) h = absurd h
+all_words (n ∷ nodes) [] h = absurd h
+all_words (n ∷ nodes) (t ∷ files) h = (h.0.words, all_words nodes files h.1)
+
+-- and of words
+pub words_of_files : (nodes : List Node) (files : List Content) → AreFiles nodes files → AreOfWords files
+words_of_files nodes files h = All-from_recursion HasWords files (all_words (relations nodes) files h)

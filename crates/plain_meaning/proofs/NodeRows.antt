@@ -68,8 +68,8 @@ group_rows-IsOfWords [] aggregates rows few words = whole_table_rows-IsOfWords a
 group_rows-IsOfWords (key ∷ keys) aggregates rows few words = grouped_rows-IsOfWords (key ∷ keys) aggregates rows few words
 
 module _ (nodes : List Node) (i : ℕ) (short : i ≤ length nodes) (n : Node) (files : List (List (List ℕ))) (widths : List ℕ) (width : ℕ) (earlier : List (List (List ℕ))) (each : (s : ℕ) → s < length widths → (length (rows_of earlier s) < 2 ^ 64) × All IsOfWords (rows_of earlier s)) where
-  pub node_rows-IsOfWords : (shape : Operator) → graph.FitsSources nodes i n shape → FitsEarlier files widths width shape → All IsOfWords (get_or files 0 []) → All IsOfWords (node_rows shape (get_or files 0 []) earlier)
-  node_rows-IsOfWords (operators.Relation r) is h file = file
+  pub node_rows-IsOfWords : (shape : Operator) → graph.FitsSources nodes i n shape → FitsEarlier files widths width shape → (is_relation shape ≡ true → All IsOfWords (get_or files 0 [])) → All IsOfWords (node_rows shape (get_or files 0 []) earlier)
+  node_rows-IsOfWords (operators.Relation r) is h file = file refl
   node_rows-IsOfWords (operators.Filter f) is h file =
       All-filter (λ row. list_all (λ test. test row) (map holds_of (map test_of f.tests))) IsOfWords (rows_of earlier f.source) (each f.source h.source).1
   node_rows-IsOfWords (operators.Select select) is h file =

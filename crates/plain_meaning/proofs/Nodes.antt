@@ -25,10 +25,12 @@ first_few n nodes files world is = by files (subst (λ b. AllZip AreRowsOf (cond
     by [] h = absurd h
     by (rows ∷ files) h = h.0.few
 
-first_words : (world : List (List (List ℕ))) (relation : ℕ) → All (All IsOfWords) world → All IsOfWords (get_or (drop relation world) 0 [])
-first_words world relation words =
-    let at : get_or (drop relation world) 0 [] ≡ get_or world relation [] = get_or-drop relation world 0 [] ∙ ap (λ n. get_or world n []) (add-zero relation) in
-    subst (All IsOfWords) (sym at) (elim (cases_lt relation (length world)) [ inl inside ↦ All-get_or (All IsOfWords) world relation [] inside words | inr past ↦ rw (get_or_past world relation [] past) (All-nil IsOfWords) ])
+first_words : (n : Node) (nodes : List Node) (files : List (List (List ℕ))) → IsWorldOf (n ∷ nodes) files → is_relation n.shape ≡ true → All IsOfWords (get_or files 0 [])
+first_words n nodes files world is = by files (subst (λ b. AllZip AreRowsOf (cond b (n ∷ relations nodes) (relations nodes)) files) is world)
+  where
+    by : (files : List (List (List ℕ))) → AllZip AreRowsOf (n ∷ relations nodes) files → All IsOfWords (get_or files 0 [])
+    by [] h = absurd h
+    by (rows ∷ files) h = h.0.words
 
 module _ (nodes : List Node) (world : List (List (List ℕ))) (are_nodes : (i : ℕ) (n : Node) → slice_get nodes i ≡ Some n → graph.IsNode nodes i n) where
   -- what is shown of a node with its number and of its rows
@@ -36,7 +38,7 @@ module _ (nodes : List Node) (world : List (List (List ℕ))) (are_nodes : (i : 
     pub meant : rows ≡ node_rows n.shape (rows_of world (relations_before nodes i)) (take i (meanings nodes world))
     pub wide : AllWide (length n.columns) rows
     pub few : FirstKeepBounds nodes world (i + 1) → length rows ≤ n.rows
-    pub words : FirstKeepBounds nodes world i → All (All IsOfWords) world → All IsOfWords rows
+    pub words : FirstKeepBounds nodes world i → All IsOfWords rows
 
   -- the rows of the first nodes
   record Reached (relation : ℕ) (earlier : List (List (List ℕ))) : Type 0 where
@@ -111,13 +113,14 @@ module _ (nodes : List Node) (world : List (List (List ℕ))) (are_nodes : (i : 
       few = λ bounds. length-node_rows nodes (length earlier) short (get_or (drop relation world) 0 []) earlier
           (λ s m lower found. (reached.shown s m lower found).few (fewer (s + 1) (length earlier + 1) (omega arith) bounds)) n n.shape (are_nodes (length earlier) n is).sources
           (first_few n (drop (length earlier + 1) nodes) (drop relation world) files_here) (subst (KeepBounds n.shape) own (bounds (length earlier) n (omega arith) is));
-      words = λ bounds words. node_rows-IsOfWords nodes (length earlier) short n (drop relation world) (widths_before nodes (length earlier)) (length n.columns) earlier
+      words = λ bounds. node_rows-IsOfWords nodes (length earlier) short n (drop relation world) (widths_before nodes (length earlier)) (length n.columns) earlier
           (λ s inside.
           let source = source_shown s inside in
           let lower = source.1 in
           let few = source.3.few (fewer (s + 1) (length earlier) (omega arith) bounds) in
           let limited = (are_nodes s source.0 source.2).few_rows in
-          (omega (arith, few, limited), source.3.words (fewer s (length earlier) (omega arith) bounds) words)) n.shape (are_nodes (length earlier) n is).sources fits (first_words world relation words);
+          (omega (arith, few, limited), source.3.words (fewer s (length earlier) (omega arith) bounds))) n.shape (are_nodes (length earlier) n is).sources fits
+          (first_words n (drop (length earlier + 1) nodes) (drop relation world) files_here);
     }
 
     reached_on : Reached (next n.shape relation) (earlier ++ rows ∷ [])

@@ -12,7 +12,7 @@ use Rattle.query_graph.specs.declared.operator.Distinct.{Distinct}
 use Rattle.query_graph.specs.declared.operator.Operator.{Operator}
 use Rattle.query_graph.specs.declared.operator.Operator.TheVariants as operators
 use Rattle.plain_operators.specs.Operators.{left_keys, right_keys}
-use Rattle.plain_operators.specs.Sizes.{joined_width}
+use Rattle.plain_operators.specs.Sizes.{IsOfWords, joined_width}
 use Rattle.plain_operators.specs.Within.{HasColumns, IsAggregateOf, IsItemOf, IsTestOf}
 use Rattle.plain_meaning.specs.Convert.{aggregate_of, item_of, test_of}
 use Rattle.plain_meaning.specs.Meaning.{is_relation}
@@ -22,19 +22,26 @@ abbrev pub relations : List Node → List Node
 relations nodes = filter (λ node. is_relation node.shape) nodes
 
 -- a table with the columns of this relation, and at most its rows; of each table the rows are as long as the columns
+-- and of words
 pub record IsFileOf (node : Node) (file : table.Content) : Type 0 where
   pub columns : file.columns ≡ node.columns
   pub rows : length file.rows ≤ node.rows
   pub rectangular : table.IsRectangular file
+  pub words : table.HasWords file
 
 -- as many tables as there are relations, and each is its relation's
 abbrev pub AreFiles : List Node → List table.Content → Type 0
 AreFiles nodes files = AllZip IsFileOf (relations nodes) files
 
--- rows of the width of this relation, and at most as many as it has
+-- tables whose rows are of words
+abbrev pub AreOfWords : List table.Content → Type 0
+AreOfWords files = All table.HasWords files
+
+-- rows of words, of the width of this relation, and at most as many as it has
 pub record AreRowsOf (node : Node) (rows : List (List ℕ)) : Type 0 where
   pub wide : All (λ row. length row ≡ length node.columns) rows
   pub few : length rows ≤ node.rows
+  pub words : All IsOfWords rows
 
 -- a world of these nodes: as many lists of rows as there are relations, and each is its relation's
 abbrev pub IsWorldOf : List Node → List (List (List ℕ)) → Type 0

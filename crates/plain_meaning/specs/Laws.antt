@@ -8,9 +8,10 @@ use Rattle.query_graph.specs.declared.node.Node.{Node}
 use Rattle.query_graph.specs.declared.operator.Operator.{Operator}
 use Rattle.query_graph.specs.declared.operator.Operator.TheVariants.{Relation, Filter, Select, Concat, Join, Group, Distinct}
 use Rattle.plain_operators.specs.Sizes.{AllWide, IsOfWords}
-use Rattle.plain_meaning.specs.Fits.{FitsEarlier, FitsRelation, IsWorldOf, relations, widths_before}
+use Rattle.tables.specs.Content as table
+use Rattle.plain_meaning.specs.Fits.{AreFiles, FitsEarlier, FitsRelation, IsWorldOf, relations, widths_before}
 use Rattle.plain_meaning.specs.Meaning.{is_relation, meanings, node_rows, rows_of}
-use Rattle.plain_meaning.specs.Plain.{bound_of, is_over}
+use Rattle.plain_meaning.specs.Plain.{bound_of, is_over, rows_of_tables}
 
 -- the most rows of a group whose rows come in three parts, each under a bound
 abbrev pub parts_bound_of : Operator → Option ℕ
@@ -61,7 +62,11 @@ abbrev pub NodesKeepSizes : Type 0
 NodesKeepSizes = (graph : graph_content.Content) (world : List (List (List ℕ))) (i : ℕ) (node : Node) → IsNodeOver graph world i node
     → FirstKeepBounds graph.nodes world (i + 1) → length (rows_of (meanings graph.nodes world) i) ≤ node.rows
 
--- and their words are below 2^64, where those of the world are and no earlier node breaks a bound
+-- and their words are below 2^64, where no earlier node breaks a bound
 abbrev pub NodesAreOfWords : Type 0
 NodesAreOfWords = (graph : graph_content.Content) (world : List (List (List ℕ))) (i : ℕ) (node : Node) → IsNodeOver graph world i node
-    → FirstKeepBounds graph.nodes world i → All (All IsOfWords) world → All IsOfWords (rows_of (meanings graph.nodes world) i)
+    → FirstKeepBounds graph.nodes world i → All IsOfWords (rows_of (meanings graph.nodes world) i)
+
+-- the files of a graph, as rows, are a world of it
+abbrev pub FilesAreWorlds : Type 0
+FilesAreWorlds = (nodes : List Node) (files : List table.Content) → AreFiles nodes files → IsWorldOf nodes (rows_of_tables files)

@@ -1,7 +1,7 @@
 //! Laws of the rows of nodes. Each function does nothing, and its contract is the law.
 #![tactic(auto)]
 
-ghost use Rattle.plain_meaning.specs.Laws.{NodesAreOfWords, NodesAreWide, NodesFitEarlier, NodesKeepSizes, NodesMeanOperators};
+ghost use Rattle.plain_meaning.specs.Laws.{FilesAreWorlds, NodesAreOfWords, NodesAreWide, NodesFitEarlier, NodesKeepSizes, NodesMeanOperators};
 
 /// The rows of each node are those of its operator on the rows of all earlier nodes.
 pub fn nodes_mean_operators()
@@ -24,7 +24,13 @@ pub fn nodes_keep_sizes()
     ensures { NodesKeepSizes }
 {}
 
-/// The words of each node's rows are below 2^64 where those of the files are, and no earlier node breaks a bound.
+/// The words of each node's rows are below 2^64, where no earlier node breaks a bound.
 pub fn nodes_are_of_words()
     ensures { NodesAreOfWords }
+{}
+
+/// The rows of a graph's files, of which the tables are its world, fit the graph.
+#[tactic(auto, using(crate::proofs::Files::world_of_files))]
+pub fn files_are_worlds()
+    ensures { FilesAreWorlds }
 {}

@@ -3,7 +3,7 @@
 
 ghost use Rattle.std.specs.Prelude.{◌≡◌, ◌<◌, drop, length, slice_index_or, [], IfOk};
 ghost use Rattle.plain_meaning.specs.Fits.{FitsAfter, FitsRelation};
-ghost use Rattle.plain_meaning.specs.Plain.{bound_of, is_over, listed_node, table_of};
+ghost use Rattle.plain_meaning.specs.Plain.{bound_of, is_over, listed_node, rows_of_tables, table_of};
 
 use crate::made::{concatenated, distinct, filtered, grouped, joined, selected};
 use crate::rows::{add_rows, copy_of, table_of_lent};
@@ -21,9 +21,9 @@ pub(crate) fn node_table(
     relation: usize,
     earlier: &[Table],
 ) -> Result<Table, AllocError>
-    requires { FitsAfter (drop relation world.now) earlier.now node.now }
+    requires { FitsAfter (drop relation (rows_of_tables world.now)) earlier.now node.now }
     ensures { IfOk result (λ table. table
-        ≡ listed_node (drop relation world.now) earlier.now node.now) }
+        ≡ listed_node (drop relation (rows_of_tables world.now)) earlier.now node.now) }
 {
     let columns = copy_of(alloc, node.columns.as_slice())?;
     match &node.shape {
@@ -44,9 +44,9 @@ fn copied(
     world: &World,
     relation: usize,
 ) -> Result<Table, AllocError>
-    requires { FitsRelation (drop relation world.now) (length columns.items) }
+    requires { FitsRelation (drop relation (rows_of_tables world.now)) (length columns.items) }
     ensures { IfOk result (λ table. table
-        ≡ table_of columns.items (slice_index_or (drop relation world.now) 0 [])) }
+        ≡ table_of columns.items (slice_index_or (drop relation (rows_of_tables world.now)) 0 [])) }
 {
     let mut rows = Vec::new(alloc);
     add_rows(world.table(relation), &mut rows)?;

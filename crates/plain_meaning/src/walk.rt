@@ -3,7 +3,7 @@
 
 ghost use Rattle.std.specs.Prelude.{◌<◌, IfOk};
 ghost use Rattle.plain_meaning.specs.Fits.{IsWorldOf};
-ghost use Rattle.plain_meaning.specs.Plain.{IsPlain};
+ghost use Rattle.plain_meaning.specs.Plain.{IsPlain, rows_of_tables};
 
 use crate::node::{is_over, node_table};
 use crate::world::{World, is_relation};
@@ -23,8 +23,8 @@ pub struct PlainRows {
 /// The plain rows of each node, up to the first with more rows than its `at most`; of that node no more than one row
 /// above the bound is listed, and none is given.
 pub fn plain(alloc: Global, graph: &Graph, world: &World) -> Result<PlainRows, AllocError>
-    requires { IsWorldOf graph.now.nodes world.now }
-    ensures { IfOk result (λ plain. IsPlain graph.now.nodes world.now plain.tables plain.over) }
+    requires { IsWorldOf graph.now.nodes (rows_of_tables world.now) }
+    ensures { IfOk result (λ plain. IsPlain graph.now.nodes (rows_of_tables world.now) plain.tables plain.over) }
 {
     let mut tables = Vec::new(alloc);
     let mut relation = 0;

@@ -2,6 +2,7 @@
 #![tactic(auto)]
 
 ghost use Rattle.std.specs.Prelude.{◌≡◌, ◌<◌, ◌↔◌, IsTrue, map, length, slice_get, Some, IfOk, IfErr};
+ghost use Rattle.tables.specs.Content.{HasWords};
 ghost use Rattle.plain_meaning.specs.Fits.{AreFiles, IsFileOf, IsWorldOf};
 ghost use Rattle.plain_meaning.specs.Meaning.{is_relation};
 ghost use Rattle.plain_meaning.specs.Plain.{rows_of_tables};
@@ -11,30 +12,34 @@ use std::marker::Model;
 use tables::Table;
 use words::{Column, Kind};
 
-/// The tables of a graph's relations, seen as one list of rows for each, in the order of the text.
+/// The tables of a graph's relations, seen as their list, in the order of the text. Their rows are of words below 2^64.
 #[derive(Debug, Drop)]
 pub struct World {
     tables: Vec<Table>,
 }
 
 impl Model for World {
-    ghost use Rattle.std.specs.Prelude.{List, ℕ, map};
+    ghost use Rattle.std.specs.Prelude.{List};
+    ghost use Rattle.tables.specs.Content.{Content};
+    ghost use Rattle.plain_meaning.specs.Fits.{AreOfWords};
 
-    ghost Value = { List (List (List ℕ)) };
+    ghost Value = { List Content };
 
-    ghost view = { λ world. map (λ table. table.rows) world.tables.items };
+    ghost view = { λ world. world.tables.items };
+
+    ghost invariant = { λ world. AreOfWords world.tables.items };
 }
 
 impl World {
-    #[tactic(auto, using(crate::proofs::Files::world_of_files))]
+    #[tactic(auto, using(crate::proofs::Files::world_of_files, crate::proofs::Files::words_of_files))]
     /// The world of these tables, one for each relation in the order of the text.
     ///
     /// Gives the tables back where there aren't as many as relations, or one has other columns than its relation or
     /// more rows.
     pub fn new(graph: &Graph, tables: Vec<Table>) -> Result<World, Vec<Table>>
         ensures ok { IfOk result (λ world.
-            (world ≡ rows_of_tables tables.items) × AreFiles graph.now.nodes tables.items) }
-        ensures fits { IfOk result (λ world. IsWorldOf graph.now.nodes world) }
+            (world ≡ tables.items) × AreFiles graph.now.nodes tables.items) }
+        ensures fits { IfOk result (λ world. IsWorldOf graph.now.nodes (rows_of_tables world)) }
         ensures err { IfErr result (λ back.
             (back ≡ tables) × ¬ (AreFiles graph.now.nodes tables.items)) }
     {
@@ -45,10 +50,11 @@ impl World {
         }
     }
 
-    /// The table of a relation, by its number from 0.
+    /// The table of a relation, by its number from 0 in the order of the text.
     pub fn table(&self, relation: usize) -> &Table
         requires { relation < length self.now }
-        ensures { slice_get self.now relation ≡ Some result.now.rows }
+        ensures file { slice_get self.now relation ≡ Some result.now }
+        ensures words { HasWords result.now }
     {
         &self.tables[relation]
     }

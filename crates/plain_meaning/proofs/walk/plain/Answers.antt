@@ -11,7 +11,7 @@ use Rattle.plain_meaning.proofs.walk.plain.Goals.{then-is_relation, else-is_rela
 pub node_table-requires : goal.node_table-requires
 node_table-requires c =
     let nodes = c.args.graph.now.nodes in
-    let world = c.args.world.now in
+    let world = map (λ t. t.rows) c.args.world.now in
     let number = c.loop-number.number in
     let n = c.node-item.result in
     let walked = c.loop-number.invariant in
@@ -27,7 +27,7 @@ node_table-requires c =
 pub returns-then-is_over : goal.returns-then-is_over
 returns-then-is_over c =
     let nodes = c.args.graph.now.nodes in
-    let world = c.args.world.now in
+    let world = map (λ t. t.rows) c.args.world.now in
     let number = c.loop-number.number in
     let relation = c.loop-number.relation in
     let n = c.node-item.result in
@@ -44,7 +44,7 @@ returns-then-is_over c =
 pub loop-number-preserved : goal.loop-number-preserved
 loop-number-preserved c =
     let nodes = c.args.graph.now.nodes in
-    let world = c.args.world.now in
+    let world = map (λ t. t.rows) c.args.world.now in
     let number = c.loop-number.number in
     let relation = c.loop-number.relation in
     let n = c.node-item.result in
