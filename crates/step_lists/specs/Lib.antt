@@ -15,3 +15,5 @@ pub mod Part
 pub mod Twin
 pub mod Possible
 pub mod Pushed
+pub mod Prefixes
+pub mod Laws

@@ -2,6 +2,7 @@
 use Rattle.std.specs.Prelude.{◌≡◌, ℕ, Bool, true, false, List, [], ◌∷◌, map, slice_index, if◌then◌else◌}
 use Rattle.std.specs.List.{range_with_len}
 use Rattle.bags.specs.Bag.{SameBag}
+use Rattle.tapes.specs.RowLaws.{rows_across}
 use Rattle.lanes.specs.declared.party.Party.{Party}
 use Rattle.lanes.specs.declared.party.Party.TheVariants.{First, Second, Third}
 use Rattle.step_lists.specs.Layout.{Step, Const, Lin, And, Share, Reveal, Steer, Tell, Work, Flag, Steps, Layout, party_of, starting, rows_moved, layout_of}
@@ -13,13 +14,6 @@ pub data Seen : Type 0 where
   Rows : List (List ℕ) → Seen
   Told : List ℕ → Seen
   Flagged : List ℕ → Seen
-
--- the words of all columns at a place, and the rows of columns of n words
-abbrev pub row_of : List (List ℕ) → ℕ → List ℕ
-row_of columns i = map (λ column. slice_index column i) columns
-
-abbrev pub rows_over : ℕ → List (List ℕ) → List (List ℕ)
-rows_over n columns = map (row_of columns) (range_with_len 0 n)
 
 -- the shown ones of the moved items
 abbrev pub shown_of : List (List ℕ) → List ℕ → List (List ℕ)
@@ -39,7 +33,7 @@ seen_step v l o (Const words) = []
 seen_step v l o (Lin op) = []
 seen_step v l o (And left right) = []
 seen_step v l o (Share party s) = []
-seen_step v l o (Reveal to moved shown) = only (same_party v (party_of to)) (Rows (rows_over (rows_moved l moved) (shown_of (map (register o) moved) shown)))
+seen_step v l o (Reveal to moved shown) = only (same_party v (party_of to)) (Rows (rows_across (rows_moved l moved) (shown_of (map (register o) moved) shown)))
 seen_step v l o (Steer by s moved) = []
 seen_step v l o (Tell source target s) = only (same_party v (party_of target)) (Told (slot o (party_of source) s))
 seen_step v l o (Work party task takes gives) = []

@@ -12,11 +12,12 @@ use Rattle.tapes.specs.declared.draw.Draw.{Draw}
 use Rattle.tapes.specs.declared.draw.Draw.TheVariants.{Word, Order}
 use Rattle.tapes.specs.Order.{composed, identity_of, inverse_of}
 use Rattle.tapes.specs.Align.{row_at, occurrence}
+use Rattle.tapes.specs.RowLaws.{rows_across}
 use Rattle.step_lists.specs.Layout.{Step, Const, Lin, And, Share, Reveal, Steer, Tell, Work, Flag, Steps, Layout, party_of, starting, rows_moved}
 use Rattle.step_lists.specs.Draws.{ThreeTapes, order_in}
 use Rattle.step_lists.specs.Run.{outs, tape_cut}
 use Rattle.step_lists.specs.Open.{SlotWords}
-use Rattle.step_lists.specs.Seen.{same_party, rows_over, shown_of}
+use Rattle.step_lists.specs.Seen.{same_party, shown_of}
 use Rattle.step_lists.specs.Phases.{Shares, Moving, there_all, back_all, phase}
 use Rattle.step_lists.specs.Machine.{Machine, shares, slot_of, moving, joint_going, before_steps}
 use Rattle.step_lists.specs.Part.{is_order}
@@ -94,7 +95,7 @@ reveal_order v n ds rows other = shifted_or_kept v n ds (aligning other rows)
 
 -- the rows over the shown registers, before they are moved
 abbrev pub open_rows : Machine → ℕ → List ℕ → List ℕ → List (List ℕ)
-open_rows m n moved shown = rows_over n (shown_of (map (λ r. opened (shares m r)) moved) shown)
+open_rows m n moved shown = rows_across n (shown_of (map (λ r. opened (shares m r)) moved) shown)
 
 -- the unseen order of a Steer by v + 1: t after inverse(g) after h
 abbrev pub steered_order : List ℕ → List ℕ → List ℕ → List ℕ

@@ -1,6 +1,7 @@
 //! Lists of steps that three parties carry out on shared words, and what such a list means.
 #![tactic(auto)]
 
+pub mod laws;
 mod layout;
 mod rules;
 mod slots;

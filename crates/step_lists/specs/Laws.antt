@@ -1,0 +1,67 @@
+-- The laws of step lists.
+use Rattle.std.specs.Prelude.{◌≡◌, ℕ, suc, ◌+◌, ◌<◌, Bool, true, false, List, [], ◌∷◌, ◌++◌, length, slice_index}
+use Rattle.std.specs.Prelude.{IsTrue}
+use Rattle.lanes.specs.declared.party.Party.{Party}
+use Rattle.lanes.specs.Three.{at}
+use Rattle.tapes.specs.Order.{IsOrder, applied}
+use Rattle.step_lists.specs.Layout.{Step, And, Reveal, Flag, Steps, Layout, party_of, starting, layout_of, length_of, shape_of, rows_moved}
+use Rattle.step_lists.specs.Draws.{ThreeTapes, needs_of, taken}
+use Rattle.step_lists.specs.Run.{tape_cut, rest_after}
+use Rattle.step_lists.specs.Open.{SlotWords, Open, item, register, slot, open_step, open_of}
+use Rattle.step_lists.specs.Seen.{Seen, Flagged, seen, seen_behind}
+use Rattle.step_lists.specs.Possible.{Fits, Possible, StandsIn, behind, ands_of, ands_behind, ands_in}
+
+-- what a list has, a longer one has: lengths, shapes, and as many registers and slots at least
+abbrev pub PrefixKeepsLayout : {T : Type 0} → (T → List (List ℕ) → List (List ℕ)) → Type 0
+PrefixKeepsLayout {T} answer =
+    (a b : Steps T) → StandsIn a b
+    → ((r : ℕ) → r < length (layout_of a).registers → (r < length (layout_of b).registers) × (length_of (layout_of b) r ≡ length_of (layout_of a) r))
+    × ((p : Party) (s : ℕ) → s < length (at p (layout_of a).slots) → (s < length (at p (layout_of b).slots)) × (shape_of (layout_of b) p s ≡ shape_of (layout_of a) p s))
+
+-- environments of a longer list are environments of the list
+abbrev pub PrefixIsPossible : {T : Type 0} → (T → List (List ℕ) → List (List ℕ)) → Type 0
+PrefixIsPossible {T} answer = (a b : Steps T) (slots : SlotWords) (ds : ThreeTapes) → StandsIn a b → Possible answer b slots ds → Possible answer a slots ds
+
+-- and in them registers and slots keep their values
+abbrev pub PrefixKeepsRegisters : {T : Type 0} → (T → List (List ℕ) → List (List ℕ)) → Type 0
+PrefixKeepsRegisters {T} answer =
+    (a b : Steps T) (slots : SlotWords) (ds : ThreeTapes) → StandsIn a b → Possible answer b slots ds
+    → (r : ℕ) → r < length (layout_of a).registers → register (open_of answer b slots ds) r ≡ register (open_of answer a slots ds) r
+
+abbrev pub PrefixKeepsSlots : {T : Type 0} → (T → List (List ℕ) → List (List ℕ)) → Type 0
+PrefixKeepsSlots {T} answer =
+    (a b : Steps T) (slots : SlotWords) (ds : ThreeTapes) → StandsIn a b
+    → (p : Party) (s : ℕ) → s < length (at p (open_of answer a slots ds).slots) → slot (open_of answer b slots ds) p s ≡ slot (open_of answer a slots ds) p s
+
+-- what is seen of a longer list is what is seen of the list, and then what is seen behind it
+abbrev pub SeenAppends : {T : Type 0} → (T → List (List ℕ) → List (List ℕ)) → Type 0
+SeenAppends {T} answer =
+    (v : Party) (a : Steps T) (more : List (Step T)) (slots : SlotWords) (ds : ThreeTapes)
+    → seen answer v (behind a more) slots ds ≡ seen answer v a slots ds ++ seen_behind answer v a more slots ds
+
+-- ---- one step more
+
+-- the draws that the step behind a list takes
+abbrev pub drawn_behind : {T : Type 0} → Steps T → Step T → ThreeTapes → ThreeTapes
+drawn_behind a s ds = taken (needs_of (layout_of a) s) (rest_after tape_cut (starting a.first) a.steps ds)
+
+-- the values behind a step are those of its kind on the values before it
+abbrev pub StepValues : {T : Type 0} → (T → List (List ℕ) → List (List ℕ)) → Type 0
+StepValues {T} answer =
+    (a : Steps T) (s : Step T) (slots : SlotWords) (ds : ThreeTapes) → (open_of answer a slots ds).stop ≡ false
+    → open_of answer (behind a (s ∷ [])) slots ds ≡ open_step answer (open_of answer a slots ds) s (drawn_behind a s ds)
+
+-- a flag whose word is 0 stops nothing; another one stops the run, also of every longer list, and nothing is seen behind it
+pub record FlagsDecide {T : Type 0} (answer : T → List (List ℕ) → List (List ℕ)) : Type 0 where
+  pub goes : (a : Steps T) (p s : ℕ) (slots : SlotWords) (ds : ThreeTapes) → Possible answer a slots ds
+      → slice_index (slot (open_of answer a slots ds) (party_of p) s) 0 ≡ 0 → Possible answer (behind a (Flag p s ∷ [])) slots ds
+  pub stops : (a : Steps T) (p s : ℕ) (more : List (Step T)) (slots : SlotWords) (ds : ThreeTapes) → (open_of answer a slots ds).stop ≡ false
+      → ¬ (slice_index (slot (open_of answer a slots ds) (party_of p) s) 0 ≡ 0)
+      → open_of answer (behind a (Flag p s ∷ more)) slots ds ≡ record (open_of answer a slots ds) { stop = true }
+  pub shows : (v : Party) (a : Steps T) (p s : ℕ) (more : List (Step T)) (slots : SlotWords) (ds : ThreeTapes) → (open_of answer a slots ds).stop ≡ false
+      → ¬ (slice_index (slot (open_of answer a slots ds) (party_of p) s) 0 ≡ 0)
+      → seen answer v (behind a (Flag p s ∷ more)) slots ds ≡ seen answer v a slots ds ++ Flagged (slot (open_of answer a slots ds) (party_of p) s) ∷ []
+
+-- AND words add up
+abbrev pub AndsAddUp : {T : Type 0} → (T → List (List ℕ) → List (List ℕ)) → Type 0
+AndsAddUp {T} answer = (a : Steps T) (more : List (Step T)) → ands_in (behind a more) ≡ ands_in a + ands_behind (layout_of a) more

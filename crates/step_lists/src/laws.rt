@@ -1,0 +1,39 @@
+//! Laws of step lists and of what they mean: a call does nothing, and its contract states the law for all lists over a
+//! task.
+#![tactic(auto)]
+
+ghost use Rattle.step_lists.specs.Laws.{PrefixKeepsLayout, PrefixIsPossible, PrefixKeepsRegisters, PrefixKeepsSlots, SeenAppends, StepValues, FlagsDecide, AndsAddUp};
+
+use crate::task::Task;
+
+/// A list that stands in a longer one keeps its registers' lengths and its slots' shapes.
+pub fn prefix_keeps_layout<T: Task>()
+    ensures { PrefixKeepsLayout T.answer }
+{}
+
+/// An environment of a longer list is one of the list, and in it registers and slots keep their open values.
+pub fn prefix_keeps_values<T: Task>()
+    ensures possible { PrefixIsPossible T.answer }
+    ensures registers { PrefixKeepsRegisters T.answer }
+    ensures slots { PrefixKeepsSlots T.answer }
+{}
+
+/// What a longer list shows is what the list shows, and then what the further steps show.
+pub fn seen_appends<T: Task>()
+    ensures { SeenAppends T.answer }
+{}
+
+/// The open values behind a step are those of its kind on the values before it.
+pub fn step_values<T: Task>()
+    ensures { StepValues T.answer }
+{}
+
+/// A flag whose word is 0 stops nothing; another one stops the run of this and of every longer list.
+pub fn flags_decide<T: Task>()
+    ensures { FlagsDecide T.answer }
+{}
+
+/// The AND words of a list and of the steps behind it add up, and And alone has any.
+pub fn ands_add_up<T: Task>()
+    ensures { AndsAddUp T.answer }
+{}
