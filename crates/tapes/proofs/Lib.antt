@@ -20,3 +20,4 @@ pub mod OrderedRows
 pub mod Existence
 pub mod NeedLemmas
 pub mod Readable
+pub mod Fitting

@@ -10,6 +10,7 @@
 mod align_rows;
 mod cursor;
 mod draw;
+mod fit;
 mod laws;
 mod make;
 mod marking;

@@ -142,6 +142,41 @@ fn words_are_lent_in_bulk(rt: HostRuntime) -> Result<(), Fail> {
     Ok(())
 }
 
+// A word and an order of 2 against needs that fit and others that don't.
+#[test]
+fn the_first_unfit_draw_is_named(rt: HostRuntime) -> Result<(), Fail> {
+    let draws = vec![in rt.alloc(); Draw::Word(7), Draw::Order(order_of(&rt, &[1, 0])?)]?;
+    let tape = Tape::new(draws)?;
+    let cases: [(&[Need], Option<u64>); 6] = [
+        (&[Need::Word, Need::OrderOf(2)], None),
+        (&[Need::Word, Need::Word], Some(1)),
+        (&[Need::Word, Need::OrderOf(3)], Some(1)),
+        (&[Need::OrderOf(2), Need::Word], Some(0)),
+        (&[Need::Word, Need::OrderOf(2), Need::Word], Some(2)),
+        (&[Need::Word], Some(1)),
+    ];
+    for (list, place) in cases {
+        let needs = needs_of(&rt, list)?;
+        assert_eq!(rt; tape.first_unfit(&needs), place);
+    }
+    Ok(())
+}
+
+// Runs of equal needs join, so a long schedule of one sort is one run.
+#[test]
+fn equal_needs_join(rt: HostRuntime) -> Result<(), Fail> {
+    let mut needs = Needs::new(rt.alloc());
+    assert!(rt; needs.is_empty());
+    needs.push_words(5)?;
+    needs.push(Need::Word)?;
+    needs.push_run(Need::OrderOf(2), 3)?;
+    assert_eq!(rt; needs.len(), 9);
+    assert_eq!(rt; needs.runs().len(), 2);
+    assert!(rt; needs.push_run(Need::Word, usize::MAX).is_err());
+    assert_eq!(rt; needs.len(), 9);
+    Ok(())
+}
+
 // The first 16 bytes of the published key stream of the zero key are
 // 76 b8 e0 ad a0 f1 3d 90 40 5d 6a e5 53 86 bd 28, words of 32 bits low byte first.
 #[test]
