@@ -1,3 +1,4 @@
 pub mod Rooms
 pub mod Moves
 pub mod LawLemmas
+pub mod Joining

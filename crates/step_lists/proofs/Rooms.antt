@@ -1,6 +1,10 @@
 -- Room for more registers, slots and flags.
-use Rattle.std.proofs.Common.{◌≡◌, ℕ, ◌+◌, ◌^◌, Bool, true, false, ◌&&◌, List, length, refl, sym, ap, ◌∙◌, length-append, true≢false}
-use Rattle.std.specs.Prelude.{IsTrue, nat_lt, slice_get, slice_index_or}
+use Rattle.std.proofs.Common.{◌≡◌, ℕ, ◌+◌, ◌^◌, suc, ◌<◌, Bool, true, false, ◌&&◌, List, [], ◌∷◌, length, refl, sym, ap, ◌∙◌, length-append, true≢false, arith, Fits, w64}
+use Rattle.std.specs.Prelude.{IsTrue, nat_lt, nat_le, slice_get, slice_index_or}
+use Rattle.std.specs.List.{list_all}
+use Rattle.std.proofs.Math.Facts.{Fits-lt-pow}
+use Rattle.std.proofs.lemmas.Bool.{lt-ltb}
+use Rattle.std.proofs.lemmas.Bool.Decides.{nat_tests}
 use Rattle.std.specs.Option.{unwrap_or}
 use Rattle.std.proofs.lemmas.Option.{unwrap_or-slice_get}
 use Rattle.lanes.specs.declared.party.Party.{Party}
@@ -80,3 +84,16 @@ small_shapes Third l more n h e =
 
 pub small_flags : (l : Layout) (n : ℕ) → IsTrue (is_small l) → nat_lt n (2 ^ 32) ≡ is_small (record l { flags = n })
 small_flags l n h = let p = small_parts l h in sym (only_5 _ _ _ _ _ p.registers p.first p.second p.third)
+
+-- words below 2 ^ 64 pass that test, so that their number decides
+words_pass : (xs : List ℕ) → ((k : ℕ) → slice_index_or xs k 0 < 2 ^ 64) → list_all (λ w. nat_lt w (2 ^ 64)) xs ≡ true
+words_pass [] h = refl
+words_pass (x ∷ xs) h =
+    let below = h 0 in
+    let here : nat_lt x (2 ^ 64) ≡ true = lt-ltb x (2 ^ 64) below in
+    ap (λ b. b && list_all (λ w. nat_lt w (2 ^ 64)) xs) here ∙ words_pass xs (λ k. h (suc k))
+
+pub const_fits : (xs : List ℕ) → ((k : ℕ) → Fits w64 (slice_index_or xs k 0)) → nat_le (length xs) 4294967295 ≡ (list_all (λ w. nat_lt w (2 ^ 64)) xs && nat_lt (length xs) (2 ^ 32))
+const_fits xs h =
+    let same : nat_le (length xs) 4294967295 ≡ nat_lt (length xs) (2 ^ 32) = grind (arith, nat_tests) in
+    same ∙ ap (λ b. b && nat_lt (length xs) (2 ^ 32)) (sym (words_pass xs (λ k. Fits-lt-pow (h k))))

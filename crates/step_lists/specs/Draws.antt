@@ -35,6 +35,10 @@ needs_words p n = put p (replicate n NeedsWord) nothing
 abbrev pub needs_order : Party → ℕ → Three (List Need)
 needs_order p n = put p (OrderOf n ∷ []) nothing
 
+-- a word of each tape for each of n
+abbrev pub needs_each : ℕ → Three (List Need)
+needs_each n = parties (λ p. replicate n NeedsWord)
+
 -- the masks of a phase of n words: tape j - 1 masks what party j takes, tape j + 1 what it gives back
 abbrev pub needs_masks : Party → ℕ → Three (List Need)
 needs_masks j n = joined (needs_words (before j) n) (needs_words (next j) n)
@@ -53,7 +57,7 @@ needs_steer p m n = joined (needs_phase (next p) m n) (needs_masks p (m * n))
 abbrev pub needs_of : {T : Type 0} → Layout → Step T → Three (List Need)
 needs_of l (Const words) = nothing
 needs_of l (Lin op) = nothing
-needs_of l (And left right) = parties (λ p. replicate (length_of l left) NeedsWord)
+needs_of l (And left right) = needs_each (length_of l left)
 needs_of l (Share party slot) =
     joined (needs_words (party_of party) (words_in_slot l (party_of party) slot)) (needs_words (next (party_of party)) (words_in_slot l (party_of party) slot))
 needs_of l (Reveal to moved shown) = needs_reveal (length moved) (rows_moved l moved)

@@ -1,6 +1,7 @@
 pub mod Layout
 pub mod Shapes
 pub mod Draws
+pub mod Schedule
 pub mod Rules
 pub mod Laid
 pub mod Kept

@@ -220,6 +220,7 @@ count_run {T} answer l o (s ∷ ss) ds h going =
   where
     early : o.stop ≡ false
     early = (grows_going answer l o s (taken (needs_of l s) ds)).going ((grows_run answer (grown l s) (open_going answer l o s (taken (needs_of l s) ds)) ss (dropped (needs_of l s) ds)).going going)
+
     by : (b : Bool) → b ≡ false → length (cond b o (open_step answer o s (taken (needs_of l s) ds))).registers ≡ length (grown l s).registers
     by true e = absurd (true≢false e)
     by false e = count_step answer l o s (taken (needs_of l s) ds) h

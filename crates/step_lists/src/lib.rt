@@ -3,12 +3,14 @@
 
 pub mod laws;
 mod layout;
+mod needs;
 mod rules;
 mod slots;
 mod step;
 mod step_list;
 mod task;
 
+pub use needs::list_needs;
 pub use slots::Slots;
 pub use step::{LinOp, Shape, Step};
 pub use step_list::{ListFault, StepList};

@@ -36,11 +36,11 @@ fn is_order_of(rows: u32, shape: Shape) -> bool
     }
 }
 
-// Words are below 2^64 by their type.
-fn are_words(words: &[u64]) -> bool
-    ensures { result ≡ list_all (λ w. nat_lt w (2 ^ 64)) words.now }
+// Words are below 2^64 by their type, so only their number is looked at.
+fn fits_const(words: &[u64]) -> bool
+    ensures { result ≡ (list_all (λ w. nat_lt w (2 ^ 64)) words.now && nat_lt (length words.now) (2 ^ 32)) }
 {
-    words.iter().all(|word| *word <= u64::MAX)
+    words.len() <= u32::MAX as usize
 }
 
 fn are_below(places: &[u32], bound: u128) -> bool
@@ -181,9 +181,7 @@ pub(crate) fn fits_layout<T: Task>(
     ensures { IfOk result (λ fits. fits ≡ fits_layout T.accepts layout.now.now step.now) }
 {
     match step {
-        Step::Const { words } => {
-            Ok(are_words(words.as_slice()) && words.len() <= u32::MAX as usize)
-        }
+        Step::Const { words } => Ok(fits_const(words.as_slice())),
         Step::Lin { op } => Ok(fits_lin(layout, op)),
         Step::And { left, right } => Ok(
             layout.is_register(*left)

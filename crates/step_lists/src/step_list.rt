@@ -6,7 +6,7 @@ ghost use Rattle.lanes.specs.Three.{at};
 ghost use Rattle.step_lists.specs.Layout.{party_of, layout_of, length_of, shape_of};
 ghost use Rattle.step_lists.specs.Possible.{behind};
 ghost use Rattle.step_lists.specs.Pushed.{Pushed};
-ghost use Rattle.step_lists.specs.Rules.{is_fine, is_party, is_register, is_slot};
+ghost use Rattle.step_lists.specs.Rules.{IsWellFormed, is_fine, is_party, is_register, is_slot};
 
 use crate::layout::Layout;
 use crate::rules::fits_layout;
@@ -103,11 +103,19 @@ impl<T: Task> StepList<T> {
         self.layout.first(party)
     }
 
-    /// The steps, in order.
+    /// The steps, in order; every list is well-formed.
     pub fn steps(&self) -> &Vec<Step<T>>
-        ensures { result.now.items ≡ self.now.steps }
+        ensures steps { result.now.items ≡ self.now.steps }
+        ensures well_formed { IsWellFormed T.accepts self.now }
     {
         &self.steps
+    }
+
+    /// The layout that the steps have grown.
+    pub(crate) fn layout(&self) -> &Layout
+        ensures { result.now.now ≡ layout_of self.now }
+    {
+        &self.layout
     }
 
     /// How many registers there are.
