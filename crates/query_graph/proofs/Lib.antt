@@ -18,3 +18,5 @@ pub mod Made
 pub mod Finished
 pub mod TextGraphs
 pub mod Numbered
+pub mod NodeSizes
+pub mod PartyMembers

@@ -16,3 +16,6 @@ pub mod Graph
 pub mod Statements
 pub mod TextGraph
 pub mod Laws
+pub mod Observers
+pub mod NodeSizes
+pub mod Members
