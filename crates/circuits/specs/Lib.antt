@@ -6,3 +6,4 @@ pub mod RunLoops
 pub mod Copies
 pub mod Blocks
 pub mod Laws
+pub mod FoldLaws
