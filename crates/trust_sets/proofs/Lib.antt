@@ -1,8 +1,11 @@
 pub mod Steps
 pub mod Graphs
+pub mod Asked
 pub mod Needs
 pub mod Within
 pub mod Unreleased
+pub mod Breaches
+pub mod RuleLines
 pub mod Alike
 pub mod RowSteps
 pub mod GroupStep

@@ -1,10 +1,13 @@
 -- Rows that are compared one by one, or after sorting.
-use Rattle.std.proofs.Common.{◌≡◌, ℕ, ◌+◌, ◌≤◌, Bool, Bor, List, [], ◌∷◌, ◌++◌, Some, map, length, take, refl, sym, ap, ◌∙◌, arith}
+use Rattle.std.proofs.Common.{◌≡◌, ℕ, ◌+◌, ◌<◌, ◌≤◌, Bool, Bor, List, [], ◌∷◌, ◌++◌, Some, map, length, take, refl, sym, ap, ◌∙◌, arith}
 use Rattle.std.specs.Prelude.{◌&&◌, ◌↔◌, IsTrue, slice_get}
 use Rattle.std.specs.Cmp.Lexicographic.{bytes_decides, pointwise}
-use Rattle.std.proofs.lemmas.List.{take_all, take_more, take_more_same}
-use Rattle.std.proofs.lemmas.Option.{get_or_from_slice_get, same_Some, slice_get_within}
+use Rattle.std.proofs.lemmas.List.{length-map, take_all, take_more, take_more_same}
+use Rattle.std.proofs.lemmas.Option.{get_or_from_slice_get, same_Some, slice_get-map, slice_get_within}
 use Rattle.std.proofs.lemmas.Slice.Eq.{slice_eq-Decides}
+use Rattle.std.specs.Option.{option_map}
+use Rattle.tables.specs.Content as table
+use Rattle.plain_meaning.specs.Plain.{rows_of_tables}
 use Rattle.bags.proofs.Rows.{row_order, row_test}
 use Rattle.bags.proofs.Sorting.{sorted_by-SameBag, SameBag-from_sorted_by}
 use Rattle.bags.specs.Bag.{SameBag, row_eq}
@@ -26,6 +29,13 @@ module _ (xs ys : List (List ℕ)) where
 -- one more row of a table
 pub take_row : (rows : List (List ℕ)) (index : ℕ) (row : List ℕ) → slice_get rows index ≡ Some row → take (index + 1) rows ≡ take index rows ++ row ∷ []
 take_row rows index row at = take_more rows index [] (slice_get_within rows index row at) ∙ ap (λ r. take index rows ++ r ∷ []) (get_or_from_slice_get rows index row [] at)
+
+-- the rows of a file that is lent
+pub file_rows : (files : List table.Content) (file : ℕ) (lent : table.Content) → slice_get files file ≡ Some lent → slice_get (rows_of_tables files) file ≡ Some lent.rows
+file_rows files file lent at = slice_get-map (λ (t : table.Content). t.rows) files file ∙ ap (option_map (λ (t : table.Content). t.rows)) at
+
+pub file_within : (files : List table.Content) (file : ℕ) → file < length (rows_of_tables files) → file < length files
+file_within files file within = rw (sym (length-map files (λ (t : table.Content). t.rows))) within
 
 -- lent rows are compared by their words
 same_lent : (xs ys : List (Bor (List ℕ))) → pointwise (λ a b. row_eq a.now b.now) xs ys ≡ pointwise row_eq (map (λ row. row.now) xs) (map (λ row. row.now) ys)

@@ -7,3 +7,4 @@ pub mod Under
 pub mod Agreement
 pub mod Steps
 pub mod Differs
+pub mod Rules

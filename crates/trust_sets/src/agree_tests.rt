@@ -1,6 +1,7 @@
 //! Two worlds of the credit study, compared for the party that joins.
 ghost use Rattle.std.specs.Prelude.{◌≡◌, true, IfOk};
 ghost use Rattle.plain_meaning.specs.Fits.{IsWorldOf};
+ghost use Rattle.plain_meaning.specs.Plain.{rows_of_tables};
 ghost use Rattle.trust_sets.specs.Differs.{IsWithinBounds};
 
 use crate::*;
@@ -41,7 +42,7 @@ fn file_of(alloc: Global, node: &Node, rows: &[&[u64]]) -> Result<Table, AllocEr
 
 // The world of these files, those of the first nodes.
 fn files_world(alloc: Global, graph: &Graph, files: &[&[&[u64]]]) -> Result<World, Fail>
-    ensures { IfOk result (λ world. IsWorldOf graph.now.nodes world) }
+    ensures { IfOk result (λ world. IsWorldOf graph.now.nodes (rows_of_tables world)) }
 {
     let mut tables = Vec::new(alloc);
     for (node, rows) in graph.nodes().iter().zip(files) {
@@ -55,16 +56,16 @@ fn files_world(alloc: Global, graph: &Graph, files: &[&[&[u64]]]) -> Result<Worl
 
 // Whether no node has more rows than its bound.
 fn is_within(alloc: Global, graph: &Graph, world: &World) -> Result<bool, AllocError>
-    requires { IsWorldOf graph.now.nodes world.now }
-    ensures { IfOk result (λ within. within ≡ true → IsWithinBounds graph.now.nodes world.now) }
+    requires { IsWorldOf graph.now.nodes (rows_of_tables world.now) }
+    ensures { IfOk result (λ within. within ≡ true → IsWithinBounds graph.now.nodes (rows_of_tables world.now)) }
 {
     Ok(plain(alloc, graph, world)?.over.is_none())
 }
 
 // The same, if no node has more rows than its bound.
 fn world_of(alloc: Global, graph: &Graph, files: &[&[&[u64]]]) -> Result<World, Fail>
-    ensures fits { IfOk result (λ world. IsWorldOf graph.now.nodes world) }
-    ensures within { IfOk result (λ world. IsWithinBounds graph.now.nodes world) }
+    ensures fits { IfOk result (λ world. IsWorldOf graph.now.nodes (rows_of_tables world)) }
+    ensures within { IfOk result (λ world. IsWithinBounds graph.now.nodes (rows_of_tables world)) }
 {
     let world = files_world(alloc, graph, files)?;
     if is_within(alloc, graph, &world)? {

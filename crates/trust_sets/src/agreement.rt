@@ -4,6 +4,7 @@
 ghost use Rattle.std.specs.Prelude.{◌≡◌, ◌↔◌, None, IsTrue, IfOk};
 ghost use Rattle.query_text.specs.Parties.{IsParty};
 ghost use Rattle.plain_meaning.specs.Fits.{IsWorldOf};
+ghost use Rattle.plain_meaning.specs.Plain.{rows_of_tables};
 ghost use Rattle.trust_sets.specs.Differs.{DifferencesAreOne, IsDifference, IsWithinBounds};
 
 use crate::answers::first_answer;
@@ -57,11 +58,11 @@ pub fn agree(
     other_excess: Option<Flag>,
 ) -> Result<Option<Differs>, AllocError>
     requires party { IsParty party }
-    requires world { IsWorldOf graph.now.nodes world.now }
-    requires other { IsWorldOf graph.now.nodes other.now }
-    requires within { excess ≡ None → IsWithinBounds graph.now.nodes world.now }
-    requires other_within { other_excess ≡ None → IsWithinBounds graph.now.nodes other.now }
-    ensures { IfOk result (λ differs. IsDifference graph.now trust.now.known party world.now other.now
+    requires world { IsWorldOf graph.now.nodes (rows_of_tables world.now) }
+    requires other { IsWorldOf graph.now.nodes (rows_of_tables other.now) }
+    requires within { excess ≡ None → IsWithinBounds graph.now.nodes (rows_of_tables world.now) }
+    requires other_within { other_excess ≡ None → IsWithinBounds graph.now.nodes (rows_of_tables other.now) }
+    ensures { IfOk result (λ differs. IsDifference graph.now trust.now.known party (rows_of_tables world.now) (rows_of_tables other.now)
         excess other_excess differs) }
 {
     let nodes = graph.nodes();

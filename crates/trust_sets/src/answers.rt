@@ -19,24 +19,13 @@ use tables::Table;
 
 // The tables of all nodes.
 fn all_tables(alloc: Global, graph: &Graph, world: &World) -> Result<Sequence<Table>, AllocError>
-    requires world { IsWorldOf graph.now.nodes world.now }
-    requires within { IsWithinBounds graph.now.nodes world.now }
+    requires world { IsWorldOf graph.now.nodes (rows_of_tables world.now) }
+    requires within { IsWithinBounds graph.now.nodes (rows_of_tables world.now) }
     ensures count { IfOk result (λ tables. length tables ≡ length graph.now.nodes) }
     ensures rows { IfOk result (λ tables. rows_of_tables tables
-        ≡ take (length graph.now.nodes) (meanings graph.now.nodes world.now)) }
+        ≡ take (length graph.now.nodes) (meanings graph.now.nodes (rows_of_tables world.now))) }
 {
     Ok(plain(alloc, graph, world)?.tables)
-}
-
-// The rows of a table, lent.
-fn lent_rows(alloc: Global, table: &Table) -> Result<Vec<&[u64]>, AllocError>
-    ensures { IfOk result (λ rows. lent rows.items ≡ table.now.rows) }
-{
-    let mut rows = Vec::new(alloc);
-    for index in 0..table.rows() {
-        rows.push(table.row(index))?;
-    }
-    Ok(rows)
 }
 
 // Whether what the party gets of an output is the same bag of rows.
@@ -56,8 +45,8 @@ fn answer_agrees(
         return Ok(true);
     }
     let node = output.node as usize;
-    let left = lent_rows(alloc, &tables[node])?;
-    let right = lent_rows(alloc, &others[node])?;
+    let left = tables[node].lent_rows(alloc)?;
+    let right = others[node].lent_rows(alloc)?;
     Ok(same_bag(left, right))
 }
 
@@ -69,11 +58,11 @@ pub(crate) fn first_answer(
     world: &World,
     other: &World,
 ) -> Result<Option<u32>, AllocError>
-    requires world { IsWorldOf graph.now.nodes world.now }
-    requires other { IsWorldOf graph.now.nodes other.now }
-    requires within { IsWithinBounds graph.now.nodes world.now }
-    requires other_within { IsWithinBounds graph.now.nodes other.now }
-    ensures { IfOk result (λ first. FirstAnswer graph.now party world.now other.now first) }
+    requires world { IsWorldOf graph.now.nodes (rows_of_tables world.now) }
+    requires other { IsWorldOf graph.now.nodes (rows_of_tables other.now) }
+    requires within { IsWithinBounds graph.now.nodes (rows_of_tables world.now) }
+    requires other_within { IsWithinBounds graph.now.nodes (rows_of_tables other.now) }
+    ensures { IfOk result (λ first. FirstAnswer graph.now party (rows_of_tables world.now) (rows_of_tables other.now) first) }
 {
     let tables = all_tables(alloc, graph, world)?;
     let others = all_tables(alloc, graph, other)?;

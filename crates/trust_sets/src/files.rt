@@ -5,6 +5,7 @@ ghost use Rattle.std.specs.Prelude.{◌≡◌, ◌≢◌, ◌<◌, ◌^◌, ◌�
 ghost use Rattle.query_graph.specs.declared.operator.Relation.{Relation};
 ghost use Rattle.plain_meaning.specs.Fits.{IsWorldOf};
 ghost use Rattle.plain_meaning.specs.Meaning.{is_relation, rows_of};
+ghost use Rattle.plain_meaning.specs.Plain.{rows_of_tables};
 ghost use Rattle.plain_operators.specs.Cuts.{CutsAgree};
 ghost use Rattle.trust_sets.specs.Agreement.{OwnFileAgrees, TrustedPartAgrees, known_columns};
 ghost use Rattle.trust_sets.specs.Differs.{FirstFailure, HasFile, OfRelation};
@@ -40,11 +41,12 @@ fn same_rows(left: &Table, right: &Table) -> bool
 }
 
 // Whether the file with this number has the same rows in both worlds, where its relation is the party's own.
+#[tactic(auto, using(crate::proofs::SameRows::file_rows, crate::proofs::SameRows::file_within))]
 fn own_file_agrees(shape: &Operator, party: u8, file: usize, world: &World, other: &World) -> bool
-    requires world { HasFile world.now file shape.now }
-    requires other { HasFile other.now file shape.now }
+    requires world { HasFile (rows_of_tables world.now) file shape.now }
+    requires other { HasFile (rows_of_tables other.now) file shape.now }
     ensures { IsTrue result ↔ OfRelation (λ r. r.owner ≡ party
-        → rows_of world.now file ≡ rows_of other.now file) shape.now }
+        → rows_of (rows_of_tables world.now) file ≡ rows_of (rows_of_tables other.now) file) shape.now }
 {
     match shape {
         Operator::Relation(written) => {
@@ -57,9 +59,9 @@ fn own_file_agrees(shape: &Operator, party: u8, file: usize, world: &World, othe
 // The first of the party's own files that differs.
 pub(crate) fn first_own_file(nodes: &[Node], party: u8, world: &World, other: &World) -> Option<u32>
     requires few { length nodes.now < 2 ^ 32 }
-    requires world { IsWorldOf nodes.now world.now }
-    requires other { IsWorldOf nodes.now other.now }
-    ensures { FirstFailure (OwnFileAgrees nodes.now party world.now other.now) result }
+    requires world { IsWorldOf nodes.now (rows_of_tables world.now) }
+    requires other { IsWorldOf nodes.now (rows_of_tables other.now) }
+    ensures { FirstFailure (OwnFileAgrees nodes.now party (rows_of_tables world.now) (rows_of_tables other.now)) result }
 {
     let mut file = 0;
     for (number, node) in nodes.iter().enumerate() {
@@ -89,6 +91,7 @@ fn known_part_agrees(
 
 // Whether that holds of the file with this number, where its relation is another party's and the party may know the
 // rows of its node.
+#[tactic(auto, using(crate::proofs::SameRows::file_within))]
 fn trusted_part_agrees(
     alloc: Global,
     shape: &Operator,
@@ -99,12 +102,12 @@ fn trusted_part_agrees(
     world: &World,
     other: &World,
 ) -> Result<bool, AllocError>
-    requires world { HasFile world.now file shape.now }
-    requires other { HasFile other.now file shape.now }
+    requires world { HasFile (rows_of_tables world.now) file shape.now }
+    requires other { HasFile (rows_of_tables other.now) file shape.now }
     ensures { IfOk result (λ same. IsTrue same ↔ OfRelation (λ r. r.owner ≢ party
         → KnowsRows party (known_at trust.now.known node)
         → CutsAgree (known_columns party (known_at trust.now.known node))
-        (rows_of world.now file) (rows_of other.now file)) shape.now) }
+        (rows_of (rows_of_tables world.now) file) (rows_of (rows_of_tables other.now) file)) shape.now) }
 {
     match shape {
         Operator::Relation(written) => {
@@ -128,10 +131,10 @@ pub(crate) fn first_trusted_part(
     other: &World,
 ) -> Result<Option<u32>, AllocError>
     requires few { length nodes.now < 2 ^ 32 }
-    requires world { IsWorldOf nodes.now world.now }
-    requires other { IsWorldOf nodes.now other.now }
+    requires world { IsWorldOf nodes.now (rows_of_tables world.now) }
+    requires other { IsWorldOf nodes.now (rows_of_tables other.now) }
     ensures { IfOk result (λ first. FirstFailure
-        (TrustedPartAgrees nodes.now trust.now.known party world.now other.now) first) }
+        (TrustedPartAgrees nodes.now trust.now.known party (rows_of_tables world.now) (rows_of_tables other.now)) first) }
 {
     let mut file = 0;
     for (number, node) in nodes.iter().enumerate() {

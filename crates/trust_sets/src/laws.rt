@@ -2,6 +2,7 @@
 #![tactic(auto)]
 
 ghost use Rattle.trust_sets.specs.Laws.{ColumnsWithinRows, KeysAreKnown, NodesKnowFromEarlier, WhatRowsNeed};
+ghost use Rattle.trust_sets.specs.Rules.{RulesInWords};
 ghost use Rattle.trust_sets.specs.Steps.{TrustLemma, TrustSteps};
 ghost use Rattle.trust_sets.specs.Under.{WithheldIsFirst};
 
@@ -52,4 +53,12 @@ pub fn trust_steps()
 #[tactic(auto, using(crate::proofs::TrustLemma::trust_lemma))]
 pub fn trust_lemma()
     ensures { TrustLemma }
+{}
+
+/// The rules on trust and release: a query passes exactly where a party named by `via` may know each key of each source,
+/// one named by `clear at` each column of each source, and each recipient is in the release set of every relation under
+/// the output. Where one fails, the first such statement in the text is named, and in it the first that fails.
+#[tactic(auto, using(crate::proofs::RuleLines::rules_in_words))]
+pub fn rules_in_words()
+    ensures { RulesInWords }
 {}

@@ -3,6 +3,7 @@ use Rattle.std.specs.Prelude.{is_some}
 use Rattle.std.proofs.lemmas.Bool.{both_ways, false≢true}
 use Rattle.query_graph.specs.declared.flag.Flag.{Flag}
 use Rattle.query_graph.specs.declared.node.Node.{Node}
+use Rattle.plain_meaning.specs.Plain.{rows_of_tables}
 use Rattle.trust_sets.specs.declared.known.Known.{Known}
 use Rattle.trust_sets.specs.Agreement.{OwnFileAgrees, TrustedPartAgrees}
 use Rattle.trust_sets.specs.Differs.{FirstAnswer, FirstFails, FirstFailure}
@@ -27,8 +28,8 @@ pub returns-in-Some-2 : goal.returns-in-Some-2
 returns-in-Some-2 c =
     let nodes = c.args.graph.now.nodes in
     let known = c.args.trust.now.known in
-    let world = c.args.world.now in
-    let other = c.args.other.now in
+    let world = rows_of_tables c.args.world.now in
+    let other = rows_of_tables c.args.other.now in
     let first = c.deref.ensures.value ∙ c.nodes-nodes.ensures.nodes in
     let second = c.deref-2.ensures.value ∙ c.nodes-nodes.ensures.nodes in
     record {
@@ -40,8 +41,8 @@ pub returns-then-not-same_excess : goal.returns-then-not-same_excess
 returns-then-not-same_excess c =
     let nodes = c.args.graph.now.nodes in
     let known = c.args.trust.now.known in
-    let world = c.args.world.now in
-    let other = c.args.other.now in
+    let world = rows_of_tables c.args.world.now in
+    let other = rows_of_tables c.args.other.now in
     let first = c.deref.ensures.value ∙ c.nodes-nodes.ensures.nodes in
     let second = c.deref-2.ensures.value ∙ c.nodes-nodes.ensures.nodes in
     record {
@@ -58,8 +59,8 @@ pub returns-then-is_some : goal.returns-then-is_some
 returns-then-is_some c =
     let nodes = c.args.graph.now.nodes in
     let known = c.args.trust.now.known in
-    let world = c.args.world.now in
-    let other = c.args.other.now in
+    let world = rows_of_tables c.args.world.now in
+    let other = rows_of_tables c.args.other.now in
     let first = c.deref.ensures.value ∙ c.nodes-nodes.ensures.nodes in
     let second = c.deref-2.ensures.value ∙ c.nodes-nodes.ensures.nodes in
     let some = sym c.is_some.ensures ∙ c.if-is_some.true in
@@ -76,8 +77,8 @@ pub returns-in-None : goal.returns-in-None
 returns-in-None c =
     let nodes = c.args.graph.now.nodes in
     let known = c.args.trust.now.known in
-    let world = c.args.world.now in
-    let other = c.args.other.now in
+    let world = rows_of_tables c.args.world.now in
+    let other = rows_of_tables c.args.other.now in
     let first = c.deref.ensures.value ∙ c.nodes-nodes.ensures.nodes in
     let second = c.deref-2.ensures.value ∙ c.nodes-nodes.ensures.nodes in
     record {
@@ -93,8 +94,8 @@ pub returns-in-Some-3 : goal.returns-in-Some-3
 returns-in-Some-3 c =
     let nodes = c.args.graph.now.nodes in
     let known = c.args.trust.now.known in
-    let world = c.args.world.now in
-    let other = c.args.other.now in
+    let world = rows_of_tables c.args.world.now in
+    let other = rows_of_tables c.args.other.now in
     let first = c.deref.ensures.value ∙ c.nodes-nodes.ensures.nodes in
     let second = c.deref-2.ensures.value ∙ c.nodes-nodes.ensures.nodes in
     record {

@@ -5,6 +5,7 @@ use Rattle.std.proofs.lemmas.Option.{slice_get-get_or}
 use Rattle.tables.specs.Content as table
 use Rattle.query_graph.specs.declared.node.Output.{Output}
 use Rattle.query_graph.specs.Parties.{no_party}
+use Rattle.plain_meaning.specs.Plain.{rows_of_tables}
 use Rattle.trust_sets.specs.Differs.{PlaceAgrees}
 use Rattle.trust_sets.proofs.NodeTables.{place_agrees}
 use Rattle.trust_sets.proofs.answers.first_answer.Goals as goal
@@ -23,9 +24,9 @@ returns-then-not-agrees c =
     let same : items ≡ graph.outputs = c.deref-output-items.ensures.value ∙ c.outputs.ensures.outputs in
     let inside : place < length items = c.loop-output-test.true in
     let is = found items graph.outputs place same inside in
-    let below = subst (λ l. (get_or l place no_output).node < length graph.nodes) (sym same) (c.outputs.ensures.graph.outputs place no_output (subst (λ l. place < length l) same inside)) in
+    let below = subst (λ l. (get_or l place no_output).node < length graph.nodes) (sym same) (c.outputs.ensures.graph.outputs place no_output (subst (λ l. place < length l) same inside)).node in
     let rows = λ (tables : List table.Content). map (λ t. t.rows) tables in
-    let agree = place_agrees graph c.args.party c.args.world.now c.args.other.now c.as_slice.result.now c.as_slice-in-loop-output.result.now place (get_or items place no_output) is below
+    let agree = place_agrees graph c.args.party (rows_of_tables c.args.world.now) (rows_of_tables c.args.other.now) c.as_slice.result.now c.as_slice-in-loop-output.result.now place (get_or items place no_output) is below
     (ap rows c.as_slice.ensures ∙ c.in_ok-tables.ensures.rows) (ap rows c.as_slice-in-loop-output.ensures ∙ c.in_ok-others.ensures.rows) in
     record {
       place = place;
@@ -43,11 +44,11 @@ loop-output-preserved c =
     let same : items ≡ graph.outputs = c.deref-output-items.ensures.value ∙ c.outputs.ensures.outputs in
     let inside : place < length items = c.loop-output-test.true in
     let is = found items graph.outputs place same inside in
-    let below = subst (λ l. (get_or l place no_output).node < length graph.nodes) (sym same) (c.outputs.ensures.graph.outputs place no_output (subst (λ l. place < length l) same inside)) in
+    let below = subst (λ l. (get_or l place no_output).node < length graph.nodes) (sym same) (c.outputs.ensures.graph.outputs place no_output (subst (λ l. place < length l) same inside)).node in
     let rows = λ (tables : List table.Content). map (λ t. t.rows) tables in
-    let agree = place_agrees graph c.args.party c.args.world.now c.args.other.now c.as_slice.result.now c.as_slice-in-loop-output.result.now place (get_or items place no_output) is below
+    let agree = place_agrees graph c.args.party (rows_of_tables c.args.world.now) (rows_of_tables c.args.other.now) c.as_slice.result.now c.as_slice-in-loop-output.result.now place (get_or items place no_output) is below
     (ap rows c.as_slice.ensures ∙ c.in_ok-tables.ensures.rows) (ap rows c.as_slice-in-loop-output.ensures ∙ c.in_ok-others.ensures.rows) in
-    below_more (PlaceAgrees graph c.args.party c.args.world.now c.args.other.now) place c.loop-output.invariant (agree.0 (c.in_ok-agrees.ensures.0 c.if-not-agrees.false))
+    below_more (PlaceAgrees graph c.args.party (rows_of_tables c.args.world.now) (rows_of_tables c.args.other.now)) place c.loop-output.invariant (agree.0 (c.in_ok-agrees.ensures.0 c.if-not-agrees.false))
 
 pub returns : goal.returns
 returns c =

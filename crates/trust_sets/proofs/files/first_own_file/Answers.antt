@@ -2,6 +2,7 @@ use Rattle.std.proofs.Common.{◌+◌, length, refl, ap, sym, ◌∙◌, subst, 
 use Rattle.std.specs.Int.{from_bool}
 use Rattle.std.proofs.lemmas.Bool.{both_ways}
 use Rattle.std.proofs.lemmas.Option.{slice_get_read}
+use Rattle.plain_meaning.specs.Plain.{rows_of_tables}
 use Rattle.trust_sets.specs.Agreement.{OwnFileAgrees}
 use Rattle.trust_sets.proofs.Walk.{OwnAsked, Walked, fails_here, file_here, files_few, walked_all, walked_more}
 use Rattle.trust_sets.proofs.files.first_own_file.Goals as goal
@@ -12,7 +13,7 @@ own_file_agrees-requires-clause-world c =
     let number = c.loop-number.number in
     let node = c.index-nodes-number.result in
     let is = slice_get_read nodes (length nodes) number node refl c.loop-number-test.true c.index-nodes-number.is in
-    file_here nodes c.args.world.now number c.loop-number.file node c.requires.world is c.loop-number.invariant.files
+    file_here nodes (rows_of_tables c.args.world.now) number c.loop-number.file node c.requires.world is c.loop-number.invariant.files
 
 pub own_file_agrees-requires-clause-other : goal.own_file_agrees-requires-clause-other
 own_file_agrees-requires-clause-other c =
@@ -20,7 +21,7 @@ own_file_agrees-requires-clause-other c =
     let number = c.loop-number.number in
     let node = c.index-nodes-number.result in
     let is = slice_get_read nodes (length nodes) number node refl c.loop-number-test.true c.index-nodes-number.is in
-    file_here nodes c.args.other.now number c.loop-number.file node c.requires.other is c.loop-number.invariant.files
+    file_here nodes (rows_of_tables c.args.other.now) number c.loop-number.file node c.requires.other is c.loop-number.invariant.files
 
 pub returns-then-not-own_file_agrees : goal.returns-then-not-own_file_agrees
 returns-then-not-own_file_agrees c =
@@ -28,7 +29,7 @@ returns-then-not-own_file_agrees c =
     let number = c.loop-number.number in
     let node = c.index-nodes-number.result in
     let is = slice_get_read nodes (length nodes) number node refl c.loop-number-test.true c.index-nodes-number.is in
-    fails_here nodes (OwnAsked c.args.party c.args.world.now c.args.other.now) number c.loop-number.file node c.loop-number.invariant is (λ asked. both_ways _ c.if-not-own_file_agrees.true (c.own_file_agrees.ensures.1 asked))
+    fails_here nodes (OwnAsked c.args.party (rows_of_tables c.args.world.now) (rows_of_tables c.args.other.now)) number c.loop-number.file node c.loop-number.invariant is (λ asked. both_ways _ c.if-not-own_file_agrees.true (c.own_file_agrees.ensures.1 asked))
 
 pub overflow_add-file : goal.overflow_add-file
 overflow_add-file c =
@@ -43,9 +44,9 @@ loop-number-preserved c =
     let node = c.index-nodes-number.result in
     let is = slice_get_read nodes (length nodes) number node refl c.loop-number-test.true c.index-nodes-number.is in
     let agrees = c.own_file_agrees.ensures.0 c.if-not-own_file_agrees.false in
-    let more = walked_more nodes (OwnAsked c.args.party c.args.world.now c.args.other.now) number c.loop-number.file node c.loop-number.invariant is agrees in
+    let more = walked_more nodes (OwnAsked c.args.party (rows_of_tables c.args.world.now) (rows_of_tables c.args.other.now)) number c.loop-number.file node c.loop-number.invariant is agrees in
     let added = c.from-file.ensures ∙ ap from_bool c.is_relation.ensures in
-    subst (λ n. Walked nodes (OwnFileAgrees nodes c.args.party c.args.world.now c.args.other.now) (number + 1) (c.loop-number.file + n)) (sym added) more
+    subst (λ n. Walked nodes (OwnFileAgrees nodes c.args.party (rows_of_tables c.args.world.now) (rows_of_tables c.args.other.now)) (number + 1) (c.loop-number.file + n)) (sym added) more
 
 pub returns : goal.returns
-returns c = walked_all c.args.nodes.now (OwnAsked c.args.party c.args.world.now c.args.other.now) c.loop-number.number c.loop-number.file c.loop-number.invariant c.loop-number-test.false
+returns c = walked_all c.args.nodes.now (OwnAsked c.args.party (rows_of_tables c.args.world.now) (rows_of_tables c.args.other.now)) c.loop-number.number c.loop-number.file c.loop-number.invariant c.loop-number-test.false
