@@ -1,5 +1,5 @@
 -- The laws of one step more.
-use Rattle.std.proofs.Common.{◌≡◌, ℕ, suc, ◌+◌, ◌<◌, Bool, true, false, cond, eqb, List, [], ◌∷◌, ◌++◌, length, get_or, append-nil, refl, sym, ap, ◌∙◌, subst, arith, true≢false}
+use Rattle.std.proofs.Common.{◌≡◌, ℕ, suc, ◌<◌, Bool, true, false, cond, eqb, List, [], ◌∷◌, ◌++◌, length, append-nil, refl, sym, ap, ◌∙◌, subst, arith, true≢false}
 use Rattle.std.specs.Prelude.{slice_index}
 use Rattle.std.proofs.lemmas.Bool.Decides.{nat_tests}
 use Rattle.lanes.specs.declared.party.Party.{Party}
@@ -7,12 +7,12 @@ use Rattle.lanes.specs.Three.{at}
 use Rattle.step_lists.specs.Layout.{Step, Flag, Steps, Layout, party_of, starting, grown, layout_of, length_of, shape_of}
 use Rattle.lanes.specs.declared.party.Party.TheVariants.{First, Second, Third}
 use Rattle.step_lists.specs.Draws.{ThreeTapes, needs, needs_of, taken, dropped}
-use Rattle.step_lists.specs.Run.{run, outs, tape_cut, rest_after}
+use Rattle.step_lists.specs.Run.{tape_cut, rest_after}
 use Rattle.step_lists.specs.Open.{SlotWords, Open, slot, after_flag, open_step, open_going, open_of}
-use Rattle.step_lists.specs.Seen.{Seen, Flagged, seen, seen_behind, seen_from, seen_going, seen_step}
-use Rattle.step_lists.specs.Possible.{FitsFront, Fits, Possible, StandsIn, behind}
+use Rattle.step_lists.specs.Seen.{Flagged, seen, seen_from, seen_step}
+use Rattle.step_lists.specs.Possible.{FitsFront, Possible, StandsIn, behind}
 use Rattle.step_lists.specs.Prefixes.{open-behind, open_run, layout_prefix, seen_append, needs_append}
-use Rattle.step_lists.specs.Laws.{PrefixKeepsLayout, StepValues, FlagsDecide, drawn_behind}
+use Rattle.step_lists.specs.Laws.{StepValues, FlagsDecide, drawn_behind}
 
 pub keeps_layout : {T : Type 0} (a b : Steps T) → StandsIn a b
     → ((r : ℕ) → r < length (layout_of a).registers → (r < length (layout_of b).registers) × (length_of (layout_of b) r ≡ length_of (layout_of a) r))

@@ -2,3 +2,8 @@ pub mod Rooms
 pub mod Moves
 pub mod LawLemmas
 pub mod Joining
+pub mod Facts
+pub mod Listing
+pub mod Drawn
+pub mod OpenFits
+pub mod FitsRun

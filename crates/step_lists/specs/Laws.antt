@@ -1,15 +1,17 @@
 -- The laws of step lists.
-use Rattle.std.specs.Prelude.{◌≡◌, ℕ, suc, ◌+◌, ◌<◌, Bool, true, false, List, [], ◌∷◌, ◌++◌, length, slice_index}
-use Rattle.std.specs.Prelude.{IsTrue}
+use Rattle.std.specs.Prelude.{◌≡◌, ℕ, ◌+◌, ◌<◌, Bool, true, false, List, [], ◌∷◌, ◌++◌, length, slice_index}
 use Rattle.lanes.specs.declared.party.Party.{Party}
 use Rattle.lanes.specs.Three.{at}
 use Rattle.tapes.specs.Order.{IsOrder, applied}
-use Rattle.step_lists.specs.Layout.{Step, And, Reveal, Flag, Steps, Layout, party_of, starting, layout_of, length_of, shape_of, rows_moved}
+use Rattle.step_lists.specs.Layout.{Step, Reveal, Flag, Steps, party_of, starting, layout_of, length_of, shape_of, rows_moved}
 use Rattle.step_lists.specs.Draws.{ThreeTapes, needs_of, taken}
 use Rattle.step_lists.specs.Run.{tape_cut, rest_after}
-use Rattle.step_lists.specs.Open.{SlotWords, Open, item, register, slot, open_step, open_of}
-use Rattle.step_lists.specs.Seen.{Seen, Flagged, seen, seen_behind}
-use Rattle.step_lists.specs.Possible.{Fits, Possible, StandsIn, behind, ands_of, ands_behind, ands_in}
+use Rattle.step_lists.specs.Open.{SlotWords, register, slot, open_step, open_of, turned}
+use Rattle.step_lists.specs.Seen.{Flagged, seen, seen_behind}
+use Rattle.step_lists.specs.OpenFits.{OpenFits}
+use Rattle.step_lists.specs.Rules.{IsWellFormed}
+use Rattle.step_lists.specs.declared.step.Shape.{Shape}
+use Rattle.step_lists.specs.Possible.{Fits, Possible, StandsIn, behind, ands_behind, ands_in}
 
 -- what a list has, a longer one has: lengths, shapes, and as many registers and slots at least
 abbrev pub PrefixKeepsLayout : {T : Type 0} → (T → List (List ℕ) → List (List ℕ)) → Type 0
@@ -50,6 +52,25 @@ abbrev pub StepValues : {T : Type 0} → (T → List (List ℕ) → List (List �
 StepValues {T} answer =
     (a : Steps T) (s : Step T) (slots : SlotWords) (ds : ThreeTapes) → (open_of answer a slots ds).stop ≡ false
     → open_of answer (behind a (s ∷ [])) slots ds ≡ open_step answer (open_of answer a slots ds) s (drawn_behind a s ds)
+
+-- the three orders that a Reveal draws are one order of its rows, which is applied to every moved register and to every
+-- shown slot
+pub record RevealOrder (n : ℕ) (ds : ThreeTapes) : Type 0 where
+  pub order : List ℕ
+  pub is_order : IsOrder order
+  pub long : length order ≡ n
+  pub turns : (xs : List ℕ) → turned ds xs ≡ applied order xs
+
+abbrev pub RevealIsOneOrder : {T : Type 0} → (T → List (List ℕ) → List (List ℕ)) → Type 0
+RevealIsOneOrder {T} answer =
+    (a : Steps T) (to : ℕ) (moved shown : List ℕ) (slots : SlotWords) (ds : ThreeTapes)
+    → Fits (behind a (Reveal to moved shown ∷ [])) slots ds → RevealOrder (rows_moved (layout_of a) moved) (drawn_behind a (Reveal to moved shown) ds)
+
+-- registers have their lengths, slots their shapes, words are below 2 ^ 64, and a slot of the shape of an order is one
+abbrev pub ValuesHaveShapes : {T : Type 0} → (T → List Shape → List Shape → Bool) → (T → List (List ℕ) → List (List ℕ)) → Type 0
+ValuesHaveShapes {T} accepts answer =
+    (list : Steps T) (slots : SlotWords) (ds : ThreeTapes) → IsWellFormed accepts list → Possible answer list slots ds
+    → OpenFits (layout_of list) (open_of answer list slots ds)
 
 -- a flag whose word is 0 stops nothing; another one stops the run, also of every longer list, and nothing is seen behind it
 pub record FlagsDecide {T : Type 0} (answer : T → List (List ℕ) → List (List ℕ)) : Type 0 where

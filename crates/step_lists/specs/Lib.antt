@@ -14,6 +14,7 @@ pub mod Phases
 pub mod Machine
 pub mod Part
 pub mod Twin
+pub mod OpenFits
 pub mod Possible
 pub mod Pushed
 pub mod Prefixes

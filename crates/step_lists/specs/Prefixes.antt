@@ -1,7 +1,6 @@
 -- A prefix of a list: what is possible for it, and what stays. Lemmas with their proofs, for the crates above.
-use Rattle.std.proofs.Common.{◌≡◌, ℕ, zero, suc, ◌+◌, ◌<◌, ◌≤◌, Bool, true, false, cond, eqb, List, [], ◌∷◌, ◌++◌, length, map, get_or, take, drop, refl, sym, ap, ◌∙◌, subst, arith, length-append, append-nil, true≢false}
+use Rattle.std.proofs.Common.{◌≡◌, ℕ, suc, ◌+◌, ◌<◌, ◌≤◌, Bool, true, false, cond, eqb, List, [], ◌∷◌, ◌++◌, length, map, get_or, take, drop, refl, sym, ap, ◌∙◌, subst, arith, length-append, append-nil, true≢false}
 use Rattle.std.proofs.lemmas.List.{append_assoc, get_or_append_left, length-map}
-use Rattle.std.specs.Prelude.{slice_index}
 use Rattle.lanes.specs.declared.party.Party.{Party}
 use Rattle.lanes.specs.declared.party.Party.TheVariants.{First, Second, Third}
 use Rattle.lanes.specs.declared.three.Three.{Three}
@@ -15,10 +14,10 @@ use Rattle.step_lists.specs.Layout.{Step, Const, Lin, And, Share, Reveal, Steer,
 use Rattle.step_lists.specs.Lin.{lin}
 use Rattle.step_lists.specs.Draws.{ThreeTapes, needs, needs_of, dropped, taken}
 use Rattle.step_lists.specs.Run.{run, tape_cut, rest_after}
-use Rattle.step_lists.specs.RunLaws.{run-append, outs-append, rest_after-append, grown_by-append}
-use Rattle.step_lists.specs.Open.{SlotWords, Open, item, register, slot, with_registers, with_slots, after_flag, open_step, open_going, open_of, opening, turned}
-use Rattle.step_lists.specs.Seen.{Seen, seen, seen_behind, seen_going}
-use Rattle.step_lists.specs.Possible.{FitsFront, Fits, Possible, behind, StandsIn, ands_of, ands_behind, ands_in}
+use Rattle.step_lists.specs.RunLaws.{run-append, outs-append, grown_by-append}
+use Rattle.step_lists.specs.Open.{SlotWords, Open, register, slot, with_registers, with_slots, after_flag, open_step, open_going, open_of, opening, turned}
+use Rattle.step_lists.specs.Seen.{seen, seen_behind, seen_going}
+use Rattle.step_lists.specs.Possible.{FitsFront, Possible, behind, StandsIn, ands_behind}
 
 -- ---- draws
 

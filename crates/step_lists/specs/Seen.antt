@@ -1,6 +1,5 @@
 -- What is opened to a party: the rows of a Reveal to it, before they are moved, the words told to it, and each flag.
-use Rattle.std.specs.Prelude.{◌≡◌, ℕ, Bool, true, false, List, [], ◌∷◌, map, slice_index, if◌then◌else◌}
-use Rattle.std.specs.List.{range_with_len}
+use Rattle.std.specs.Prelude.{◌≡◌, ℕ, Bool, true, false, List, [], ◌∷◌, map, if◌then◌else◌}
 use Rattle.bags.specs.Bag.{SameBag}
 use Rattle.tapes.specs.RowLaws.{rows_across}
 use Rattle.lanes.specs.declared.party.Party.{Party}

@@ -2,9 +2,11 @@
 //! task.
 #![tactic(auto)]
 
-ghost use Rattle.step_lists.specs.Laws.{PrefixKeepsLayout, PrefixIsPossible, PrefixKeepsRegisters, PrefixKeepsSlots, SeenAppends, StepValues, FlagsDecide, AndsAddUp};
+ghost use Rattle.step_lists.specs.Laws.{PrefixKeepsLayout, PrefixIsPossible, PrefixKeepsRegisters, PrefixKeepsSlots, SeenAppends, StepValues, RevealIsOneOrder, ValuesHaveShapes, FlagsDecide, AndsAddUp};
 
 use crate::task::Task;
+use lanes::{item_laws, lane_laws};
+use tapes::order_laws;
 
 /// A list that stands in a longer one keeps its registers' lengths and its slots' shapes.
 pub fn prefix_keeps_layout<T: Task>()
@@ -27,6 +29,24 @@ pub fn seen_appends<T: Task>()
 pub fn step_values<T: Task>()
     ensures { StepValues T.answer }
 {}
+
+/// A Reveal has one order for each environment, which is applied to every moved register and every shown slot.
+pub fn reveals_have_one_order<T: Task>()
+    ensures { RevealIsOneOrder T.answer }
+{
+    item_laws();
+    lane_laws();
+    order_laws();
+}
+
+/// In each environment of a well-formed list registers have their lengths, slots their shapes, and words are below 2^64.
+pub fn values_have_shapes<T: Task>()
+    ensures { ValuesHaveShapes T.accepts T.answer }
+{
+    item_laws();
+    lane_laws();
+    order_laws();
+}
 
 /// A flag whose word is 0 stops nothing; another one stops the run of this and of every longer list.
 pub fn flags_decide<T: Task>()
