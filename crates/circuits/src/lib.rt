@@ -5,8 +5,6 @@
 //! the numeric function of the values of its arguments, lane by lane, at no more AND words than stated.
 #![tactic(auto)]
 
-#[cfg(test)]
-mod block_tests;
 mod blocks;
 mod choice;
 mod copies;
@@ -18,12 +16,8 @@ mod places;
 mod prefix;
 mod products;
 mod run_flags;
-#[cfg(test)]
-mod run_tests;
 mod runs;
 mod sums;
-#[cfg(test)]
-mod tests;
 
 pub use blocks::fold_blocks;
 pub use choice::{greatest, least, mux};

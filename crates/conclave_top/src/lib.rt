@@ -16,13 +16,9 @@ mod laws;
 mod lines;
 mod plain;
 mod plan;
-#[cfg(test)]
-mod plan_tests;
 mod plan_text;
 mod print;
 mod relations;
-#[cfg(test)]
-mod tests;
 
 pub use command::conclave;
 pub use laws::{one_verdict, some_verdict, statuses_are_exact};

@@ -11,8 +11,6 @@ mod laws;
 mod listed;
 mod log;
 mod party;
-#[cfg(test)]
-mod tests;
 mod three;
 
 pub use lane_work::{pick_words, shared_and, shared_ands, xor_into, xor_words};

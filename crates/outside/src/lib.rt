@@ -11,8 +11,6 @@ mod memory_folder;
 mod memory_sink;
 mod sink;
 mod std_sink;
-#[cfg(test)]
-mod tests;
 
 pub use disk_folder::DiskFolder;
 pub use folder::{Folder, FolderFault};

@@ -31,28 +31,3 @@ pub fn distinct_rows<'a>(
     }
     Ok(kept)
 }
-
-#[cfg(test)]
-mod tests {
-    use super::*;
-    use std::test::Fail;
-
-    #[test]
-    fn keeps_first_occurrences_in_order(rt: HostRuntime) -> Result<(), Fail> {
-        let cases: [(&[&[u64]], &[&[u64]]); 3] = [
-            (&[], &[]),
-            (
-                &[&[2, 9], &[1, 8], &[2, 9], &[2, 7], &[1, 8]],
-                &[&[2, 9], &[1, 8], &[2, 7]],
-            ),
-            (&[&[1], &[1, 0], &[], &[1], &[]], &[&[1], &[1, 0], &[]]),
-        ];
-        for (rows, want) in cases {
-            for limit in [None, Some(0), Some(1), Some(9)] {
-                let first = &want[..limit.unwrap_or(9).min(want.len())];
-                assert!(rt; distinct_rows(rt.alloc(), rows, limit)?.as_slice() == first);
-            }
-        }
-        Ok(())
-    }
-}

@@ -135,30 +135,3 @@ fn joined_row(
     add_others(right_keys, right, &mut words)?;
     Ok(words)
 }
-
-#[cfg(test)]
-mod tests {
-    use super::*;
-    use std::test::Fail;
-
-    #[test]
-    fn joins_in_nested_order_up_to_the_limit(rt: HostRuntime) -> Result<(), Fail> {
-        let lefts: [&[u64]; 3] = [&[10, 7], &[11, 9], &[12, 7]];
-        let rights: [&[u64]; 4] = [&[7, 1], &[8, 2], &[7, 3], &[9, 4]];
-        let all: [&[u64]; 5] = [
-            &[7, 10, 1],
-            &[7, 10, 3],
-            &[9, 11, 4],
-            &[7, 12, 1],
-            &[7, 12, 3],
-        ];
-        for (limit, count) in [(None, 5), (Some(0), 0), (Some(4), 4), (Some(9), 5)] {
-            let made = joined_rows(rt.alloc(), &[(1, 0)], &lefts, &rights, limit)?;
-            assert_eq!(rt; made.len(), count);
-            for (row, want) in made.iter().zip(all) {
-                assert!(rt; row.as_slice() == want);
-            }
-        }
-        Ok(())
-    }
-}

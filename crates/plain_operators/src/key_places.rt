@@ -100,29 +100,3 @@ fn one_place(alloc: Global, place: usize) -> Result<Vec<usize>, AllocError>
     places.push(place)?;
     Ok(places)
 }
-
-#[cfg(test)]
-mod tests {
-    use super::*;
-    use std::test::Fail;
-
-    #[test]
-    fn gathers_places_by_first_occurrence(rt: HostRuntime) -> Result<(), Fail> {
-        let cases: [(&[&[u64]], &[&[usize]]); 3] = [
-            (&[], &[]),
-            (
-                &[&[7], &[5], &[7], &[7], &[1, 0], &[5]],
-                &[&[0, 2, 3], &[1, 5], &[4]],
-            ),
-            (&[&[], &[0], &[]], &[&[0, 2], &[1]]),
-        ];
-        for (rows, want) in cases {
-            let groups = grouped_places(rt.alloc(), rows)?;
-            assert_eq!(rt; groups.len(), want.len());
-            for (places, wanted) in groups.iter().zip(want) {
-                assert!(rt; places.as_slice() == *wanted);
-            }
-        }
-        Ok(())
-    }
-}

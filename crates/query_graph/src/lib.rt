@@ -12,8 +12,6 @@ mod draft;
 mod fault;
 mod flag;
 mod graph;
-#[cfg(test)]
-mod graph_tests;
 mod kinds;
 mod laws;
 mod members;
@@ -26,8 +24,6 @@ mod operand;
 mod operator;
 mod operators;
 mod parties;
-#[cfg(test)]
-mod refusal_tests;
 mod rules;
 mod shapes;
 mod sizes;

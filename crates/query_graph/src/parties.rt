@@ -95,30 +95,3 @@ fn has_number(numbers: &[u8], party: u8) -> bool
 pub fn sets_by_members()
     ensures { SetsByMembers }
 {}
-
-#[cfg(test)]
-mod tests {
-    use super::*;
-
-    #[test]
-    fn sets_have_the_parties_put_in(rt: HostRuntime) {
-        let one_three = Parties::none().with(1).with(3);
-        let two_three = Parties::none().with(3).with(2).with(3);
-        for (set, want) in [
-            (Parties::none(), [false, false, false, false]),
-            (one_three, [true, false, true, false]),
-            (two_three, [false, true, true, false]),
-            (one_three.meet(two_three), [false, false, true, false]),
-            (one_three.either(two_three), [true, true, true, false]),
-        ] {
-            let found = [
-                set.contains(1),
-                set.contains(2),
-                set.contains(3),
-                set.contains(0) || set.contains(4) || set.contains(255),
-            ];
-            assert_eq!(rt; found, want, "in {set:?}");
-        }
-        assert_eq!(rt; one_three, Parties::none().with(3).with(1));
-    }
-}

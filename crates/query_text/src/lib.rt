@@ -12,8 +12,6 @@ mod operand;
 mod parser;
 mod parts;
 mod print;
-#[cfg(test)]
-mod print_tests;
 mod query;
 mod read;
 mod read_parts;
@@ -23,8 +21,6 @@ mod spell_parts;
 mod spell_statements;
 mod statement;
 mod stop;
-#[cfg(test)]
-mod tests;
 mod token_list;
 mod tokens;
 

@@ -86,6 +86,3 @@ fn read_rows(
     check_count(reader, fields, declared, u64::from(declared))?;
     Ok(table)
 }
-
-#[cfg(test)]
-mod tests;

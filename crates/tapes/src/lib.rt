@@ -21,8 +21,6 @@ mod placed;
 mod read_draw;
 mod tape;
 mod tape_bytes;
-#[cfg(test)]
-mod tests;
 
 pub use align_rows::{AlignFault, align};
 pub use cursor::Cursor;

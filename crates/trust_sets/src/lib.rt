@@ -9,8 +9,6 @@
 //! files agree for a party, what it may know of any node is the same (`specs/Steps.antt`).
 #![tactic(auto)]
 
-#[cfg(test)]
-mod agree_tests;
 mod agreement;
 mod answers;
 mod check;
@@ -23,8 +21,6 @@ mod known;
 mod laws;
 mod operators;
 mod trust;
-#[cfg(test)]
-mod trust_tests;
 mod withheld;
 
 pub use agreement::{Differs, agree, differences_are_one};

@@ -11,8 +11,6 @@ mod clear;
 mod gates;
 mod lane_words;
 mod tally;
-#[cfg(test)]
-mod tests;
 mod wire;
 
 pub use clear::Clear;

@@ -75,23 +75,3 @@ impl Clone for Column {
         Ok(Column { name, kind })
     }
 }
-
-#[cfg(test)]
-mod tests {
-    use super::*;
-    use std::test::Fail;
-
-    #[test]
-    fn labels_and_columns_keep_their_bytes(rt: HostRuntime) -> Result<(), Fail> {
-        let name = Label::new(rt.alloc(), b"ssn")?;
-        let column = Column {
-            name,
-            kind: Kind::Num,
-        };
-        let copy = column.clone()?;
-        assert_eq!(rt; copy.name.bytes(), b"ssn".as_slice());
-        assert_eq!(rt; copy.kind, Kind::Num);
-        assert_eq!(rt; column.name.bytes(), b"ssn".as_slice());
-        Ok(())
-    }
-}

@@ -75,32 +75,3 @@ fn with_digit(value: u64, digit: u8) -> Option<u64>
 {
     value.checked_mul(10)?.checked_add(u64::from(digit - b'0'))
 }
-
-#[cfg(test)]
-mod tests {
-    use super::*;
-
-    #[test]
-    fn reads_exactly_the_numbers_of_a_word(rt: HostRuntime) {
-        for (text, want) in [
-            ("0", Ok(0)),
-            ("7", Ok(7)),
-            ("0000000000000000000000000000000000012", Ok(12)),
-            ("18446744073709551615", Ok(18446744073709551615)),
-            ("00018446744073709551615", Ok(18446744073709551615)),
-            ("18446744073709551616", Err(ValueFault::TooLarge)),
-            ("18446744073709551620", Err(ValueFault::TooLarge)),
-            ("99999999999999999999999", Err(ValueFault::TooLarge)),
-            ("", Err(ValueFault::NotNumber)),
-            (" 1", Err(ValueFault::NotNumber)),
-            ("+1", Err(ValueFault::NotNumber)),
-            ("-1", Err(ValueFault::NotNumber)),
-            ("1x", Err(ValueFault::NotNumber)),
-            ("0x1", Err(ValueFault::NotNumber)),
-            ("99999999999999999999999x", Err(ValueFault::NotNumber)),
-            ("１", Err(ValueFault::NotNumber)),
-        ] {
-            assert_eq!(rt; read_num(text.as_bytes()), want, "at {text}");
-        }
-    }
-}

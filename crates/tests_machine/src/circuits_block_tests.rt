@@ -1,7 +1,7 @@
 ghost use Rattle.std.specs.Prelude.{◌≡◌, ◌*◌, ◌<◌, ◌^◌, length};
 
-use crate::run_tests::folded;
-use crate::{Fold, fold_blocks};
+use crate::circuits_run_tests::folded;
+use circuits::{Fold, fold_blocks};
 use rand::rngs::StdRng;
 use rand::{RngExt, SeedableRng};
 use std::alloc::{AllocError, Global};

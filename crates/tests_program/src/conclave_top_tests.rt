@@ -1,4 +1,4 @@
-use crate::{conclave, one_verdict, some_verdict, statuses_are_exact};
+use conclave_top::{conclave, one_verdict, some_verdict, statuses_are_exact};
 use outside::{MemoryFolder, MemorySink};
 use std::alloc::{AllocError, Global};
 use std::test::Fail;

@@ -1,4 +1,4 @@
-use crate::tests::{Failing, Run, run_words};
+use crate::conclave_top_tests::{Failing, Run, run_words};
 use std::alloc::Global;
 use std::test::Fail;
 

@@ -1,6 +1,6 @@
 ghost use Rattle.std.specs.Prelude.{◌≡◌, ◌<◌, ◌^◌, length};
 
-use crate::{Fold, run_copies, run_folds, run_sums};
+use circuits::{Fold, run_copies, run_folds, run_sums};
 use rand::rngs::StdRng;
 use rand::{RngExt, SeedableRng};
 use std::alloc::{AllocError, Global};

@@ -1,5 +1,5 @@
 //! Which rule refuses a query, and where.
-use crate::*;
+use query_graph::{GraphFault, build};
 use query_text::{ReadFault, read_query};
 use std::alloc::{AllocError, Global};
 use std::test::Fail;

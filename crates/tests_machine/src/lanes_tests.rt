@@ -1,4 +1,4 @@
-use crate::{
+use lanes::{
     Listed, Party, Three, Words, pick_words, shared_and, shared_ands, xor_into, xor_words,
 };
 use std::test::Fail;

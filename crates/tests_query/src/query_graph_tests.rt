@@ -1,12 +1,16 @@
 //! Which graph a query has.
-use crate::refusal_tests::{RELATIONS, behind};
-use crate::*;
+use crate::query_graph_refusal_tests::{RELATIONS, behind};
+use query_graph::{
+    Aggregate, Graph, GraphFault, Item, Node, Operand, Operator, Output, Parties, Test, build,
+    names_are_numbers,
+};
 use query_text::{Cmp, Op, ReadFault, read_query};
 use std::alloc::Global;
 use std::test::Fail;
 use words::Kind;
 
-fn graph_of(alloc: Global, text: &[u8]) -> Result<Graph, GraphFault> {
+// The graph of a text.
+pub(crate) fn graph_of(alloc: Global, text: &[u8]) -> Result<Graph, GraphFault> {
     match read_query(alloc, text) {
         Ok(query) => build(alloc, &query),
         Err(ReadFault::Text { line, column: _ }) => Err(GraphFault::Kind { line }),
@@ -232,4 +236,26 @@ fn rows_go_by_bounds(rt: HostRuntime) -> Result<(), Fail> {
         assert_eq!(rt; found, rows, "{text:?}");
     }
     Ok(())
+}
+
+#[test]
+fn sets_have_the_parties_put_in(rt: HostRuntime) {
+    let one_three = Parties::none().with(1).with(3);
+    let two_three = Parties::none().with(3).with(2).with(3);
+    for (set, want) in [
+        (Parties::none(), [false, false, false, false]),
+        (one_three, [true, false, true, false]),
+        (two_three, [false, true, true, false]),
+        (one_three.meet(two_three), [false, false, true, false]),
+        (one_three.either(two_three), [true, true, true, false]),
+    ] {
+        let found = [
+            set.contains(1),
+            set.contains(2),
+            set.contains(3),
+            set.contains(0) || set.contains(4) || set.contains(255),
+        ];
+        assert_eq!(rt; found, want, "in {set:?}");
+    }
+    assert_eq!(rt; one_three, Parties::none().with(3).with(1));
 }

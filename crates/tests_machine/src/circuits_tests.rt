@@ -1,7 +1,7 @@
 ghost use Rattle.std.specs.Prelude.{◌≡◌, ◌<◌, ◌^◌, IfOk, length};
 ghost use Rattle.wires.specs.Growth.{IsMade, lanes_of};
 
-use crate::{Fold, add, combine, eq, greatest, least, lt, masked, mul, mux, sub};
+use circuits::{Fold, add, combine, eq, greatest, least, lt, masked, mul, mux, sub};
 use rand::rngs::StdRng;
 use rand::{RngExt, SeedableRng};
 use std::alloc::{AllocError, Global};

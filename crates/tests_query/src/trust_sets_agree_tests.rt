@@ -4,13 +4,13 @@ ghost use Rattle.plain_meaning.specs.Fits.{IsWorldOf};
 ghost use Rattle.plain_meaning.specs.Plain.{rows_of_tables};
 ghost use Rattle.trust_sets.specs.Differs.{IsWithinBounds};
 
-use crate::*;
+use crate::plain_meaning_tests::file_of;
 use plain_meaning::{World, plain};
-use query_graph::{Flag, Graph, Node, build};
+use query_graph::{Flag, Graph, build};
 use query_text::read_query;
 use std::alloc::{AllocError, Global};
 use std::test::Fail;
-use tables::Table;
+use trust_sets::{Differs, agree, derive_trust};
 
 const CREDIT: &[u8] = b"relation people of 1 rows 4 (ssn num, zip num)
 relation scores2 of 2 rows 3 (ssn num trust 1, score num)
@@ -25,20 +25,6 @@ const PEOPLE: &[&[u64]] = &[&[100, 2139], &[101, 2139], &[102, 94110], &[103, 10
 const SCORES2: &[&[u64]] = &[&[100, 700], &[101, 650], &[102, 600]];
 
 const SCORES3: &[&[u64]] = &[&[100, 710], &[102, 640], &[999, 500]];
-
-fn file_of(alloc: Global, node: &Node, rows: &[&[u64]]) -> Result<Table, AllocError> {
-    let mut columns = Vec::new(alloc);
-    for column in node.columns.as_slice() {
-        columns.push(column.clone()?)?;
-    }
-    let mut table = Table::new(alloc, columns);
-    for row in rows {
-        if row.len() == table.columns().len() {
-            table.push(row)?;
-        }
-    }
-    Ok(table)
-}
 
 // The world of these files, those of the first nodes.
 fn files_world(alloc: Global, graph: &Graph, files: &[&[&[u64]]]) -> Result<World, Fail>

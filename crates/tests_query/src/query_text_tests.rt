@@ -1,4 +1,4 @@
-use crate::*;
+use query_text::{Body, KindText, ReadFault, one_reading, read_query};
 use std::alloc::{AllocError, Global};
 use std::test::Fail;
 

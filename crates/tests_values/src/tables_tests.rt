@@ -1,9 +1,9 @@
 ghost use Rattle.std.specs.Prelude.{◌≡◌, ◌≢◌, IfOk};
 ghost use Rattle.tables.specs.File.{HasNoFlag};
 
-use crate::{Table, TableFault, answer_text, fault_text, read_table};
 use std::alloc::{AllocError, Global};
 use std::test::Fail;
+use tables::{Table, TableFault, answer_text, fault_text, read_table};
 use words::{Column, Kind, Label, ValueFault};
 
 fn column(alloc: Global, name: &[u8], kind: Kind) -> Result<Column, AllocError>
@@ -197,5 +197,62 @@ fn counts_columns_and_records_from_the_header_on(rt: HostRuntime) -> Result<(), 
         read_table(rt.alloc(), text, &columns, 3).err(),
         Some(fault)
     );
+    Ok(())
+}
+
+// A table of numbers; a row of another length would be missing in the answer.
+fn table_with_rows(alloc: Global, names: &[&[u8]], rows: &[&[u64]]) -> Result<Table, Fail> {
+    let mut columns = Vec::new(alloc);
+    for name in names {
+        let name = Label::new(alloc, name)?;
+        let kind = Kind::Num;
+        columns.push(Column { name, kind })?;
+    }
+    let mut table = Table::new(alloc, columns);
+    for row in rows {
+        if row.len() == table.columns().len() {
+            table.push(row)?;
+        }
+    }
+    Ok(table)
+}
+
+#[test]
+fn writes_header_and_rows_in_order(rt: HostRuntime) -> Result<(), Fail> {
+    let cases: [(&[&[u8]], &[&[u64]], &[u8]); 5] = [
+        (&[b"x"], &[], b"x\n"),
+        (
+            &[b"x", b"y"],
+            &[&[2, 9], &[1, 8], &[2, 7]],
+            b"x,y\n1,8\n2,7\n2,9\n",
+        ),
+        (&[b"z"], &[&[10], &[9], &[10], &[0]], b"z\n0\n9\n10\n10\n"),
+        (
+            &[b"n"],
+            &[&[u64::MAX], &[2139]],
+            b"n\n2139\n18446744073709551615\n",
+        ),
+        (&[b"a,b", b""], &[&[1, 2]], b"\"a,b\",\n1,2\n"),
+    ];
+    for (names, rows, want) in cases {
+        let table = table_with_rows(rt.alloc(), names, rows)?;
+        assert!(rt; answer_text(rt.alloc(), &table)?.as_slice() == want);
+    }
+    Ok(())
+}
+
+#[test]
+fn writes_each_kind_in_its_own_way(rt: HostRuntime) -> Result<(), Fail> {
+    let mut columns = Vec::new(rt.alloc());
+    for (name, kind) in [(b"n", Kind::Num), (b"t", Kind::Text), (b"f", Kind::Flag)] {
+        let name = Label::new(rt.alloc(), name)?;
+        columns.push(Column { name, kind })?;
+    }
+    let mut table = Table::new(rt.alloc(), columns);
+    assert_eq!(rt; table.columns().len(), 3);
+    table.push(&[7, 0x3032_3133_3900_0000, 1])?;
+    table.push(&[7, 0, 0])?;
+    let text = answer_text(rt.alloc(), &table)?;
+    assert_eq!(rt; text.as_slice(), b"n,t,f\n7,,0\n7,02139,1\n".as_slice());
     Ok(())
 }

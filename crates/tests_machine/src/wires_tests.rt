@@ -2,9 +2,9 @@ ghost use Rattle.std.specs.Prelude.{◌≡◌, IfOk};
 ghost use Rattle.wires.specs.Growth.{IsMade, lanes_of};
 ghost use Rattle.wires.specs.Held.{held_shape};
 
-use crate::{Clear, Tally, Wire, Wires};
 use std::alloc::{AllocError, Global};
 use std::test::Fail;
+use wires::{Clear, Tally, Wire, Wires};
 
 #[derive(Clone, Copy)]
 enum Gate {

@@ -1,5 +1,5 @@
-use crate::tests::QUERY;
-use crate::*;
+use crate::query_text_tests::QUERY;
+use query_text::{ReadFault, print_query, read_query};
 use rand::rngs::StdRng;
 use rand::{RngExt, SeedableRng};
 use std::alloc::{AllocError, Global};

@@ -1,9 +1,9 @@
 //! The sets of graphs, and what they refuse.
-use crate::*;
-use query_graph::{Graph, GraphFault, Parties, build};
-use query_text::{ReadFault, read_query};
+use crate::query_graph_tests::graph_of;
+use query_graph::Parties;
 use std::alloc::Global;
 use std::test::Fail;
+use trust_sets::{Trust, TrustFault, check_trust, derive_trust};
 
 const CREDIT: &[u8] = b"relation people of 1 rows 4 (ssn num, zip text)
 relation scores2 of 2 rows 3 (ssn num trust 1, score num)
@@ -30,14 +30,6 @@ w = group a (n = count, t = sum y)
 d1 = distinct a
 d2 = distinct b
 output d1 to 1";
-
-fn graph_of(alloc: Global, text: &[u8]) -> Result<Graph, GraphFault> {
-    match read_query(alloc, text) {
-        Ok(query) => build(alloc, &query),
-        Err(ReadFault::Text { line, column: _ }) => Err(GraphFault::Kind { line }),
-        Err(ReadFault::Memory) => Err(GraphFault::Memory),
-    }
-}
 
 fn number(place: usize) -> u32 {
     u32::try_from(place).unwrap_or(u32::MAX)

@@ -1,4 +1,4 @@
-use crate::{DiskFolder, Folder, FolderFault, MemoryFolder, MemorySink, OutFault, Sink, StdSink};
+use outside::{DiskFolder, Folder, FolderFault, MemoryFolder, MemorySink, OutFault, Sink, StdSink};
 use std::test::Fail;
 
 fn named(rt: &HostRuntime, name: &str, bytes: &[u8]) -> Result<(String, Vec<u8>), Fail> {

@@ -1,13 +1,13 @@
-use crate::{
-    AlignFault, Draw, LentDraw, Need, Needs, Order, Schedule, Tape, TapeFault, align, make_tapes,
-    read_tape, write_tape,
-};
 use rand::rngs::StdRng;
 use rand::seq::SliceRandom;
 use rand::{RngExt, SeedableRng};
 use rand_chacha::ChaCha20Rng;
 use rand_core::utils::NextWord;
 use std::test::Fail;
+use tapes::{
+    AlignFault, Draw, LentDraw, Need, Needs, Order, Schedule, Tape, TapeFault, align, make_tapes,
+    read_tape, write_tape,
+};
 
 // The word of a draw, and the numbers of one.
 fn word_at(tape: &Tape, index: usize) -> Option<u64> {

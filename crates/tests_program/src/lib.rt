@@ -1,0 +1,10 @@
+//! Tests of `conclave_top` through its public calls, over folders and streams in memory.
+//!
+//! Holds nothing else and promises nothing. A crate with tests is proved a second time with them, so the tests stand
+//! here, above the crate that they test.
+#![tactic(auto)]
+
+#[cfg(test)]
+mod conclave_top_plan_tests;
+#[cfg(test)]
+mod conclave_top_tests;
