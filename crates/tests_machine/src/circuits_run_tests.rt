@@ -66,39 +66,50 @@ pub(crate) fn folded(fold: Fold, left: u64, right: u64) -> u64 {
     }
 }
 
-#[test]
-fn a_thousand_random_lanes_are_folded_and_copied(rt: HostRuntime) -> Result<(), Fail> {
+// Which of a thousand lanes are joined to the one before, and random words.
+fn random_lanes(alloc: Global) -> Result<(Vec<u64>, Vec<u64>), AllocError> {
     let mut random = StdRng::seed_from_u64(11);
-    let mut joined = Vec::new(rt.alloc());
-    let mut column = Vec::new(rt.alloc());
+    let mut joined = Vec::new(alloc);
+    let mut column = Vec::new(alloc);
     for _ in 0..1000 {
         joined.push(random.random_range(0..40u64).min(1))?;
         column.push(random.random())?;
     }
+    Ok((joined, column))
+}
+
+// The first lane whose word isn't the fold of its run so far; without a fold, the first of its run.
+fn first_other(fold: Option<Fold>, joined: &[u64], column: &[u64], found: &[u64]) -> Option<usize> {
+    let mut so_far = None;
+    for (lane, (flag, word)) in joined.iter().zip(column).enumerate() {
+        let new = match so_far {
+            Some(before) if *flag == 1 => fold.map_or(before, |fold| folded(fold, before, *word)),
+            _ => *word,
+        };
+        if found.get(lane) != Some(&new) {
+            return Some(lane);
+        }
+        so_far = Some(new);
+    }
+    None
+}
+
+#[test]
+fn a_thousand_random_lanes_are_folded_and_copied(rt: HostRuntime) -> Result<(), Fail> {
+    let (joined, column) = random_lanes(rt.alloc())?;
     assert_eq!(rt; joined.len(), 1000);
     assert_eq!(rt; column.len(), 1000);
     for (fold, _) in FOLDS {
-        let value = folds_of(rt.alloc(), fold, joined.as_slice(), column.as_slice())?;
-        assert_eq!(rt; value.len(), 1000);
-        let mut so_far = 0;
-        for lane in 0..1000 {
-            so_far = if lane == 0 || joined[lane] == 0 {
-                column[lane]
-            } else {
-                folded(fold.unwrap_or(Fold::Sum), so_far, column[lane])
-            };
-            assert_eq!(rt; value[lane], so_far, "{fold:?} in lane {lane}");
-        }
+        let value = folds_of(rt.alloc(), fold, &joined, &column)?;
+        let fold = Some(fold.unwrap_or(Fold::Sum));
+        assert_eq!(rt;
+            first_other(fold, &joined, &column, &value),
+            None,
+            "{fold:?}"
+        );
     }
-    let value = copies_of(rt.alloc(), joined.as_slice(), column.as_slice())?;
-    assert_eq!(rt; value.len(), 1000);
-    let mut first = 0;
-    for lane in 0..1000 {
-        if lane == 0 || joined[lane] == 0 {
-            first = column[lane];
-        }
-        assert_eq!(rt; value[lane], first, "copies in lane {lane}");
-    }
+    let value = copies_of(rt.alloc(), &joined, &column)?;
+    assert_eq!(rt; first_other(None, &joined, &column, &value), None, "copies");
     Ok(())
 }
 

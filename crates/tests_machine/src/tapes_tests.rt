@@ -1,12 +1,15 @@
+ghost use Rattle.std.specs.Prelude.{◌≡◌, ◌<◌, length};
+
 use rand::rngs::StdRng;
 use rand::seq::SliceRandom;
 use rand::{RngExt, SeedableRng};
 use rand_chacha::ChaCha20Rng;
 use rand_core::utils::NextWord;
+use std::alloc::{AllocError, Global};
 use std::test::Fail;
 use tapes::{
-    AlignFault, Draw, LentDraw, Need, Needs, Order, Schedule, Tape, TapeFault, align, make_tapes,
-    read_tape, write_tape,
+    AlignFault, Draw, LentDraw, Need, Needs, Order, Schedule, Tape, TapeFault, Tapes, align,
+    make_tapes, read_tape, write_tape,
 };
 
 // The word of a draw, and the numbers of one.
@@ -232,26 +235,37 @@ fn tapes_of_a_seed_are_the_scripts(rt: HostRuntime) -> Result<(), Fail> {
     Ok(())
 }
 
+// Whether two tapes have the same bytes.
+fn have_equal_bytes(alloc: Global, tape: &Tape, other: &Tape) -> Result<bool, AllocError> {
+    let bytes = write_tape(alloc, tape)?;
+    let others = write_tape(alloc, other)?;
+    Ok(bytes.as_slice() == others.as_slice())
+}
+
+fn are_equal(alloc: Global, tapes: &Tapes, others: &Tapes) -> Result<bool, AllocError> {
+    Ok(
+        have_equal_bytes(alloc, &tapes.first, &others.first)?
+            && have_equal_bytes(alloc, &tapes.second, &others.second)?
+            && have_equal_bytes(alloc, &tapes.third, &others.third)?,
+    )
+}
+
+// Whether the first draw of a tape is another order than the identity.
+fn moves(tape: &Tape) -> bool {
+    places_at(tape, 0) != Some([0, 1, 2, 3, 4, 5, 6, 7].as_slice())
+}
+
 #[test]
 fn a_seed_gives_the_same_tapes_again(rt: HostRuntime) -> Result<(), Fail> {
     let schedule = three(&rt, &[Need::OrderOf(8), Need::OrderOf(8)])?;
-    let mut moved = 0u32;
+    let mut moved = false;
     for seed in 1..21 {
         let once = make_tapes(rt.alloc(), &schedule, seed)?;
         let again = make_tapes(rt.alloc(), &schedule, seed)?;
-        for (tape, other) in [
-            (&once.first, &again.first),
-            (&once.second, &again.second),
-            (&once.third, &again.third),
-        ] {
-            let bytes = write_tape(rt.alloc(), tape)?;
-            assert_eq!(rt; bytes.as_slice(), write_tape(rt.alloc(), other)?.as_slice());
-            if places_at(tape, 0) != Some([0, 1, 2, 3, 4, 5, 6, 7].as_slice()) && moved < 100 {
-                moved += 1;
-            }
-        }
+        assert!(rt; are_equal(rt.alloc(), &once, &again)?, "seed {seed}");
+        moved = moved || moves(&once.first) || moves(&once.second) || moves(&once.third);
     }
-    assert!(rt; moved > 0);
+    assert!(rt; moved);
     Ok(())
 }
 
@@ -274,71 +288,155 @@ fn shuffled(rt: &HostRuntime, random: &mut StdRng, count: u32) -> Result<Order, 
     }
 }
 
+fn is_identity(order: &Order) -> bool {
+    order
+        .places()
+        .iter()
+        .enumerate()
+        .all(|(index, place)| *place as usize == index)
+}
+
+// Whether an order and its inverse undo each other.
+fn is_undone(alloc: Global, order: &Order) -> Result<bool, AllocError> {
+    let back = order.inverse(alloc)?;
+    if back.len() != order.len() {
+        return Ok(false);
+    }
+    Ok(is_identity(&order.then(alloc, &back)?) && is_identity(&back.then(alloc, order)?))
+}
+
+// The words that two orders give one after the other.
+fn applied_in_turn(
+    alloc: Global,
+    first: &Order,
+    second: &Order,
+    words: &[u64],
+) -> Result<Vec<u64>, AllocError>
+    requires of_first { length words.now ≡ length first.now }
+    requires of_second { length words.now ≡ length second.now }
+{
+    let mut once = vec![in alloc; 0u64; words.len()]?;
+    first.apply(words, &mut once);
+    let mut twice = vec![in alloc; 0u64; words.len()]?;
+    second.apply(&once, &mut twice);
+    Ok(twice)
+}
+
+// The words that both give as one order.
+fn applied_as_one(
+    alloc: Global,
+    first: &Order,
+    second: &Order,
+    words: &[u64],
+) -> Result<Vec<u64>, AllocError>
+    requires of_first { length words.now ≡ length first.now }
+    requires of_second { length words.now ≡ length second.now }
+{
+    let both = first.then(alloc, second)?;
+    let mut once = vec![in alloc; 0u64; words.len()]?;
+    both.apply(words, &mut once);
+    Ok(once)
+}
+
+fn random_words(
+    alloc: Global,
+    random: &mut StdRng,
+    count: u32,
+    below: u64,
+) -> Result<Vec<u64>, AllocError>
+    requires { 0 < below }
+{
+    let mut words = Vec::new(alloc);
+    for _ in 0..count {
+        words.push(random.random_range(0..below))?;
+    }
+    Ok(words)
+}
+
 #[test]
 fn random_orders_are_a_group(rt: HostRuntime) -> Result<(), Fail> {
     let mut random = StdRng::seed_from_u64(8);
     for count in [0, 1, 2, 7, 64, 200] {
         let first = shuffled(&rt, &mut random, count)?;
         let second = shuffled(&rt, &mut random, count)?;
-        let identity = Order::identity(rt.alloc(), count)?;
-        assert_eq!(rt; identity.len(), count as usize);
-        assert_eq!(rt; first.len(), second.len());
-        let back = first.inverse(rt.alloc())?;
-        assert_eq!(rt; back.len(), first.len());
-        assert_eq!(rt; first.then(rt.alloc(), &back)?.places(), identity.places());
-        assert_eq!(rt; back.then(rt.alloc(), &first)?.places(), identity.places());
+        assert!(rt; is_identity(&Order::identity(rt.alloc(), count)?));
+        assert!(rt; is_undone(rt.alloc(), &first)?, "{count} items");
         assert_eq!(rt; first.copy(rt.alloc())?.places(), first.places());
-
-        let mut words = vec![in rt.alloc(); 0u64; first.len()]?;
-        for word in words.iter_mut() {
-            *word = random.random_range(0..1000);
-        }
-        let mut once = vec![in rt.alloc(); 0u64; first.len()]?;
-        let mut twice = vec![in rt.alloc(); 0u64; first.len()]?;
-        let mut both = vec![in rt.alloc(); 0u64; first.len()]?;
-        first.apply(&words, &mut once);
-        second.apply(&once, &mut twice);
-        first.then(rt.alloc(), &second)?.apply(&words, &mut both);
-        assert_eq!(rt; twice.as_slice(), both.as_slice());
+        let words = random_words(rt.alloc(), &mut random, count, 1000)?;
+        assert!(rt; words.len() == first.len() && words.len() == second.len());
+        let twice = applied_in_turn(rt.alloc(), &first, &second, &words)?;
+        let once = applied_as_one(rt.alloc(), &first, &second, &words)?;
+        assert_eq!(rt; twice.as_slice(), once.as_slice());
     }
     Ok(())
+}
+
+// Rows of one word each.
+fn rows_of(alloc: Global, words: &[u64]) -> Result<Vec<Vec<u64>>, AllocError> {
+    let mut rows = Vec::new(alloc);
+    for word in words {
+        rows.push(vec![in alloc; *word]?)?;
+    }
+    Ok(rows)
+}
+
+// Whether the order leads from each row to an equal one, and keeps equal rows in their order.
+fn keeps_occurrences(
+    alloc: Global,
+    order: &Order,
+    source: &Vec<Vec<u64>>,
+    target: &Vec<Vec<u64>>,
+) -> Result<bool, AllocError> {
+    let mut seen: Vec<(u64, u32)> = Vec::new(alloc);
+    for (place, row) in order.places().iter().zip(target) {
+        let word = row.first().copied().unwrap_or(0);
+        let is_equal = source
+            .get(*place as usize)
+            .map_or(false, |from| from.as_slice() == row.as_slice());
+        if !is_equal
+            || seen
+                .iter()
+                .any(|(other, earlier)| *other == word && earlier >= place)
+        {
+            return Ok(false);
+        }
+        seen.push((word, *place))?;
+    }
+    Ok(true)
+}
+
+// The fault of aligning two lists of rows, if there is one.
+fn fault_of_alignment(
+    alloc: Global,
+    source: &Vec<Vec<u64>>,
+    target: &Vec<Vec<u64>>,
+) -> Option<AlignFault> {
+    if source.len() >= 1000 || target.len() >= 1000 {
+        return None;
+    }
+    align(alloc, source, target).err()
 }
 
 // Rows of one word below 5, so that many are equal.
 #[test]
 fn rows_with_repeats_are_aligned(rt: HostRuntime) -> Result<(), Fail> {
     let mut random = StdRng::seed_from_u64(9);
-    for count in [0usize, 1, 3, 50, 200] {
-        let mut source = Vec::new(rt.alloc());
-        for _ in 0..count {
-            source.push(vec![in rt.alloc(); random.random_range(0u64..5)]?)?;
-        }
-        let mut target = Vec::new(rt.alloc());
-        for row in &source {
-            target.push(Vec::from_slice(rt.alloc(), row)?)?;
-        }
-        target.as_mut_slice().shuffle(&mut random);
+    for count in [0, 1, 3, 50, 200] {
+        let mut words = random_words(rt.alloc(), &mut random, count, 5)?;
+        let source = rows_of(rt.alloc(), &words)?;
+        words.as_mut_slice().shuffle(&mut random);
+        let target = rows_of(rt.alloc(), &words)?;
         assert!(rt; source.len() < 1000 && target.len() < 1000);
         let order = align(rt.alloc(), &source, &target)?;
         let back = align(rt.alloc(), &target, &source)?;
         assert_eq!(rt; back.places(), order.inverse(rt.alloc())?.places());
-        let mut seen: Vec<(u64, u32)> = Vec::new(rt.alloc());
-        for (place, row) in order.places().iter().zip(&target) {
-            let from = source.get(*place as usize).ok_or("a place past the end")?;
-            assert_eq!(rt; from.as_slice(), row.as_slice());
-            let word = row.first().copied().unwrap_or(0);
-            assert!(rt;
-                seen.iter()
-                    .all(|(other, earlier)| *other != word || earlier < place)
-            );
-            seen.push((word, *place))?;
-        }
-        target.push(vec![in rt.alloc(); 5u64]?)?;
-        assert!(rt; target.len() < 1000);
-        match align(rt.alloc(), &source, &target) {
-            Ok(_) => assert!(rt; false, "a row is missing"),
-            Err(fault) => assert_eq!(rt; fault, AlignFault::NotSameBag),
-        }
+        assert!(rt; keeps_occurrences(rt.alloc(), &order, &source, &target)?);
+        words.push(5)?;
+        let more = rows_of(rt.alloc(), &words)?;
+        assert_eq!(rt;
+            fault_of_alignment(rt.alloc(), &source, &more),
+            Some(AlignFault::NotSameBag)
+        );
     }
     Ok(())
 }

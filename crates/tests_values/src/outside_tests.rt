@@ -1,4 +1,5 @@
 use outside::{DiskFolder, Folder, FolderFault, MemoryFolder, MemorySink, OutFault, Sink, StdSink};
+use std::alloc::{AllocError, Global};
 use std::test::Fail;
 
 fn named(rt: &HostRuntime, name: &str, bytes: &[u8]) -> Result<(String, Vec<u8>), Fail> {
@@ -12,45 +13,52 @@ fn is_some_and_equal(found: Option<&Vec<u8>>, wanted: &[u8]) -> bool {
     found.map_or(false, |bytes| bytes.as_slice() == wanted)
 }
 
-#[test]
-fn a_memory_folder_keeps_the_later_file_and_notes_its_calls(rt: HostRuntime) -> Result<(), Fail> {
+// A folder with an older and a newer file a, and a file b; calls 1 and 4 fail.
+fn folder_of_three(rt: &HostRuntime) -> Result<MemoryFolder, Fail> {
     let files = vec![in rt.alloc();
-        named(&rt, "a", b"old")?,
-        named(&rt, "b", b"two")?,
-        named(&rt, "a", b"new")?,
+        named(rt, "a", b"old")?,
+        named(rt, "b", b"two")?,
+        named(rt, "a", b"new")?,
     ]?;
     let failing = vec![in rt.alloc(); 1, 4]?;
-    let mut folder = MemoryFolder::new(rt.alloc(), files, failing)?;
-    let first = folder.read("a").ok();
-    assert!(rt; is_some_and_equal(first.as_ref(), b"new"), "the later file");
-    assert!(rt;
-        folder.read("b").err() == Some(FolderFault::Failed),
-        "call 1 is listed"
-    );
-    assert!(rt;
-        folder.read("c").err() == Some(FolderFault::Failed),
-        "a name that isn't there"
-    );
+    Ok(MemoryFolder::new(rt.alloc(), files, failing)?)
+}
+
+// Whether a file is read, and has these bytes.
+fn reads(folder: &mut MemoryFolder, name: &str, wanted: &[u8]) -> bool {
+    is_some_and_equal(folder.read(name).ok().as_ref(), wanted)
+}
+
+fn fails_to_read(folder: &mut MemoryFolder, name: &str) -> bool {
+    folder.read(name).err() == Some(FolderFault::Failed)
+}
+
+fn names_called(alloc: Global, folder: &MemoryFolder) -> Result<String, AllocError> {
+    let mut calls = String::new(alloc);
+    for name in folder.calls() {
+        calls.push_str(name.as_str())?;
+    }
+    Ok(calls)
+}
+
+#[test]
+fn a_memory_folder_keeps_the_later_file_and_notes_its_calls(rt: HostRuntime) -> Result<(), Fail> {
+    let mut folder = folder_of_three(&rt)?;
+    assert!(rt; reads(&mut folder, "a", b"new"), "the later file");
+    assert!(rt; fails_to_read(&mut folder, "b"), "call 1 is listed");
+    assert!(rt; fails_to_read(&mut folder, "c"), "a name that isn't there");
     assert!(rt; folder.write("c", b"three").is_ok(), "a new name");
     assert!(rt;
         folder.write("a", b"four").err() == Some(FolderFault::Failed),
         "call 4 is listed"
     );
-    let third = folder.read("c").ok();
-    assert!(rt;
-        is_some_and_equal(third.as_ref(), b"three"),
-        "what was written"
-    );
+    assert!(rt; reads(&mut folder, "c", b"three"), "what was written");
     assert!(rt;
         is_some_and_equal(folder.file("a"), b"new"),
         "a failed write changes nothing"
     );
     assert!(rt; folder.file("d").is_none(), "no such file");
-    let mut calls = String::new(rt.alloc());
-    for name in folder.calls() {
-        calls.push_str(name.as_str())?;
-    }
-    assert_eq!(rt; calls.as_str(), "abccac");
+    assert_eq!(rt; names_called(rt.alloc(), &folder)?.as_str(), "abccac");
     Ok(())
 }
 
