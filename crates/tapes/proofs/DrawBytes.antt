@@ -1,12 +1,11 @@
 -- The bytes of a tape, draw by draw.
-use Rattle.std.proofs.Common.{◌≡◌, ℕ, ◌+◌, ◌<◌, List, [], ◌∷◌, ◌++◌, Option, Some, None, length, get_or, take, refl, sym, ◌∙◌, ap}
-use Rattle.std.specs.Prelude.{slice_get, option_and_then}
+use Rattle.std.proofs.Common.{◌≡◌, ℕ, ◌+◌, ◌<◌, List, ◌++◌, Some, length, get_or, take, sym, ◌∙◌, ap}
+use Rattle.std.specs.Prelude.{slice_get}
 use Rattle.std.proofs.lemmas.List.{take_more}
-use Rattle.std.proofs.lemmas.Option.{slice_get-get_or, slice_get_within}
+use Rattle.std.proofs.lemmas.Option.{slice_get-get_or}
 use Rattle.tapes.specs.declared.draw.Draw.{Draw}
-use Rattle.tapes.specs.declared.draw.Draw.TheVariants.{Word, Order}
+use Rattle.tapes.specs.declared.draw.Draw.TheVariants.{Word}
 use Rattle.tapes.specs.Bytes.{draw_bytes, tape_bytes}
-use Rattle.tapes.specs.Reading.{Reading, word_of, order_of, word_at, order_at}
 use Rattle.tapes.proofs.Spelling.{tape_bytes_more}
 
 -- the bytes of one draw more

@@ -1,16 +1,14 @@
 -- Draws that fit so far.
-use Rattle.std.proofs.Common.{◌≡◌, ◌≢◌, ℕ, suc, zero, ◌+◌, ◌<◌, ◌≤◌, ◌^◌, List, [], ◌∷◌, ◌++◌, Option, Some, None, length, take, slice_get, refl, sym, ◌∙◌, ap, subst, arith}
+use Rattle.std.proofs.Common.{◌≡◌, ℕ, suc, zero, ◌+◌, ◌<◌, ◌≤◌, List, [], ◌∷◌, ◌++◌, Some, length, take, slice_get, sym, ◌∙◌, ap, subst, arith}
 use Rattle.std.proofs.lemmas.List.{take_all, length_push}
 use Rattle.std.proofs.lemmas.Option.{slice_get_past, slice_get-get_or}
 use Rattle.tapes.specs.declared.draw.Draw.{Draw}
-use Rattle.tapes.specs.declared.draw.Draw.TheVariants.{Word, Order}
+use Rattle.tapes.specs.declared.draw.Draw.TheVariants.{Word}
 use Rattle.tapes.specs.declared.draw.Need.{Need}
-use Rattle.tapes.specs.declared.draw.Need.TheVariants.{Word as NeedsWord, OrderOf}
 use Rattle.tapes.specs.Met.{IsMet}
 use Rattle.tapes.specs.NeedLaws.{IsFirstUnfit, IsUnmet}
 use Rattle.tapes.specs.Needs.{FitsNeeds, Meets}
-use Rattle.tapes.specs.Order.{IsOrder, IsShortOrder}
-use Rattle.tapes.specs.Reading.{Reading, word_of, order_of, word_at, order_at}
+use Rattle.tapes.specs.Reading.{Reading}
 use Rattle.tapes.proofs.NeedLemmas.{fits_or_first_unfit}
 
 fits_one : (p : ℕ) (needs : List Need) (draws : List Draw) (need : Need) (draw : Draw) → FitsNeeds (take p needs) (take p draws)

@@ -1,13 +1,13 @@
 -- How a tape lies: what comes next at a place.
-use Rattle.std.proofs.Common.{◌≡◌, ◌≢◌, ℕ, suc, zero, ◌+◌, ◌-◌, ◌<◌, ◌≤◌, List, [], ◌∷◌, ◌++◌, Option, Some, None, length, get_or, take, drop, map, refl, sym, ◌∙◌, ap, subst, arith, length-append, length-drop, add-zero}
+use Rattle.std.proofs.Common.{◌≡◌, ℕ, suc, zero, ◌+◌, ◌-◌, ◌<◌, ◌≤◌, List, [], ◌∷◌, ◌++◌, Some, None, length, take, drop, refl, sym, ◌∙◌, ap, subst, arith, length-append, length-drop}
 use Rattle.std.specs.Prelude.{slice_get, option_and_then}
 use Rattle.std.specs.Option.{option_map}
-use Rattle.std.proofs.lemmas.List.{length-map, length-take, length-take-le, drop-drop, drop-map, drop_more, drop_all}
+use Rattle.std.proofs.lemmas.List.{length-map, length-take, length-take-le}
 use Rattle.tapes.specs.declared.draw.Draw.{Draw}
 use Rattle.tapes.specs.declared.draw.Draw.TheVariants.{Word, Order}
 use Rattle.tapes.specs.declared.placed.PlacedOrder.{PlacedOrder}
-use Rattle.tapes.specs.Laid.{as_draws, draws_from, ArePlaced, IsLaid, StandsAt, words_before}
-use Rattle.tapes.specs.Reading.{word_of, order_of, first_words, leading_words}
+use Rattle.tapes.specs.Laid.{as_draws, draws_from, ArePlaced, words_before}
+use Rattle.tapes.specs.Reading.{order_of, first_words, leading_words}
 
 -- ---- where orders stand
 

@@ -21,3 +21,4 @@ pub mod Existence
 pub mod NeedLemmas
 pub mod Readable
 pub mod Fitting
+pub mod BulkWords

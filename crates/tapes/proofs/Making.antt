@@ -1,5 +1,5 @@
 -- A generator at a place of a key's words, and tapes that are made draw by draw.
-use Rattle.std.proofs.Common.{◌≡◌, ℕ, suc, ◌+◌, ◌*◌, ◌<◌, ◌^◌, List, [], ◌∷◌, ◌++◌, length, get_or, take, map, refl, sym, ◌∙◌, ap, subst, arith}
+use Rattle.std.proofs.Common.{◌≡◌, ℕ, suc, ◌+◌, ◌*◌, ◌^◌, List, [], ◌∷◌, ◌++◌, length, map, refl, sym, ◌∙◌, ap, subst, arith}
 use Rattle.std.proofs.lemmas.List.{map_push, length_push}
 use Rattle.rand_chacha.specs.ChaCha.{ChaCha, word_at, key_of}
 use Rattle.tapes.specs.declared.draw.Need.{Need}

@@ -1,6 +1,7 @@
 //! Laws of orders, rows, needs and tapes. Each function computes nothing, and its contract is the law.
 ghost use Rattle.tapes.specs.Laws.{OrdersAreClosed, IdentityIsNeutral, OrdersAssociate, InverseUndoes, ComposedIsApplied, AppliedGoesThrough, AlignedIsExact, BytesHaveAnswer, MadeTapeIsOnly, SameBagsAlign, SeedsHaveTapes};
 ghost use Rattle.tapes.specs.NeedLaws.{FitsByPlace, FitsOfParts, FitsOrFirstUnfit};
+ghost use Rattle.tapes.specs.ReadingLaws.{WordsInBulk};
 ghost use Rattle.tapes.specs.RowLaws.{RowsOfColumns, RowsOfOrders};
 
 /// The laws of orders, which are a group: a call does nothing, and its contract states them.
@@ -40,6 +41,12 @@ pub fn need_laws()
     ensures parts { FitsOfParts }
     ensures places { FitsByPlace }
     ensures unfit { FitsOrFirstUnfit }
+{}
+
+/// Words that are read in bulk: which they are, when there are so many, and that draws which fit so
+/// many words and more have them.
+pub fn cursor_laws()
+    ensures { WordsInBulk }
 {}
 
 /// Bytes are a tape or have a first fault; which one, `read_tape` says.

@@ -1,4 +1,4 @@
-use Rattle.std.proofs.Common.{◌≡◌, ◌++◌, ◌+◌, List, length, get_or, take, replicate, sym, ◌∙◌, ap, subst, arith}
+use Rattle.std.proofs.Common.{◌≡◌, ◌++◌, List, length, get_or, take, replicate, sym, ◌∙◌, ap, subst, arith}
 use Rattle.tapes.specs.declared.draw.Need.{Need}
 use Rattle.tapes.specs.declared.draw.Need.TheVariants.{Word}
 use Rattle.tapes.specs.declared.needs.Run.{Run}

@@ -1,4 +1,4 @@
-use Rattle.std.proofs.Common.{◌≡◌, ◌++◌, suc, ◌-◌, replicate, sym, ◌∙◌, ap, arith, rules}
+use Rattle.std.proofs.Common.{◌≡◌, ◌++◌, ◌-◌, replicate, sym, ◌∙◌, ap, arith, rules}
 use Rattle.std.proofs.lemmas.List.{get_or_default}
 use Rattle.tapes.specs.declared.needs.Run.{Run}
 use Rattle.tapes.specs.Runs.{needs_of}

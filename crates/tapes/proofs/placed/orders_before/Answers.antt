@@ -1,8 +1,7 @@
-use Rattle.std.proofs.Common.{◌≡◌, ◌+◌, ◌-◌, ◌<◌, ◌≤◌, ℕ, length, get_or, ap, arith}
+use Rattle.std.proofs.Common.{◌≡◌, ap, arith}
 use Rattle.tapes.specs.declared.placed.PlacedOrder.{PlacedOrder}
-use Rattle.tapes.specs.Laid.{StandsAt}
 use Rattle.tapes.proofs.LaidLemmas.{length-draws_from}
-use Rattle.tapes.proofs.Standing.{IsCut, cut_up, cut_down, stands_at_cut}
+use Rattle.tapes.proofs.Standing.{cut_up, cut_down, stands_at_cut}
 use Rattle.tapes.proofs.placed.orders_before.Goals as goal
 
 pub loop-low-preserved-then-orders-middle : goal.loop-low-preserved-then-orders-middle

@@ -1,8 +1,7 @@
-use Rattle.std.proofs.Common.{◌≡◌, ◌++◌, ◌+◌, ℕ, List, Some, length, get_or, take, drop, replicate, slice_get, sym, ◌∙◌, ap, subst, arith}
+use Rattle.std.proofs.Common.{◌≡◌, ◌++◌, List, length, get_or, take, drop, replicate, slice_get, sym, ◌∙◌, ap, subst, arith}
 use Rattle.tapes.specs.declared.draw.Need.{Need}
 use Rattle.tapes.specs.declared.draw.Need.TheVariants.{Word}
 use Rattle.tapes.specs.declared.needs.Run.{Run}
-use Rattle.tapes.specs.Needs.{width_of}
 use Rattle.tapes.specs.Runs.{needs_of}
 use Rattle.tapes.proofs.RunLemmas.{need_more, runs_more, need_there}
 use Rattle.tapes.proofs.Spelling.{ReadSoFar, read_one, no_order_here}

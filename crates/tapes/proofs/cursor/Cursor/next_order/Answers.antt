@@ -1,4 +1,4 @@
-use Rattle.std.proofs.Common.{◌≡◌, ◌<◌, length, sym, ◌∙◌, ap, arith, Some}
+use Rattle.std.proofs.Common.{◌<◌, length, sym, ◌∙◌, ap, arith, Some}
 use Rattle.tapes.specs.declared.placed.PlacedOrder.{PlacedOrder}
 use Rattle.tapes.specs.Reading.{order_at}
 use Rattle.tapes.proofs.Standing.{after_order}

@@ -1,4 +1,4 @@
-use Rattle.std.proofs.Common.{sym, ◌∙◌, ap, true}
+use Rattle.std.proofs.Common.{sym, ◌∙◌, ap}
 use Rattle.std.specs.Prelude.{is_some}
 use Rattle.tapes.specs.Reading.{moved_past}
 use Rattle.tapes.proofs.ReadingLemmas.{only_word, one_is_there, no_word_there}

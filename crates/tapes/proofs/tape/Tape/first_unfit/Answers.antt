@@ -1,12 +1,11 @@
-use Rattle.std.proofs.Common.{◌≡◌, ◌++◌, ◌+◌, ℕ, List, Some, length, get_or, take, replicate, slice_get, sym, ◌∙◌, ap, subst, arith}
+use Rattle.std.proofs.Common.{◌≡◌, ◌++◌, List, Some, length, get_or, take, replicate, slice_get, sym, ◌∙◌, ap, subst, arith}
 use Rattle.std.proofs.lemmas.List.{take_all}
 use Rattle.tapes.specs.declared.draw.Need.{Need}
 use Rattle.tapes.specs.declared.draw.Need.TheVariants.{Word}
 use Rattle.tapes.specs.declared.needs.Run.{Run}
-use Rattle.tapes.specs.NeedLaws.{IsFirstUnfit}
 use Rattle.tapes.specs.Runs.{needs_of}
 use Rattle.tapes.proofs.RunLemmas.{need_more, runs_more, need_there}
-use Rattle.tapes.proofs.Fitting.{FitsSoFar, fits_next, unfit_here, too_many, all_fit, not_fit}
+use Rattle.tapes.proofs.Fitting.{FitsSoFar, fits_next, unfit_here, too_many, not_fit}
 use Rattle.tapes.proofs.tape.Tape.first_unfit.Goals as goal
 
 abbrev none : Run
