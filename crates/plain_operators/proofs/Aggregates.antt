@@ -5,15 +5,12 @@ use Rattle.std.proofs.Math.Nat.{add-mod-mod, add_assoc, add_comm, max_comm, min_
 use Rattle.std.proofs.lemmas.List.{length-append, map-append}
 use Rattle.std.proofs.lemmas.List.Sums.{fold-append, sum_by-append}
 use Rattle.bags.specs.Bag.{SameBag, row_eq}
-use Rattle.bags.proofs.Bags.{SameBag-filter, SameBag-map}
-use Rattle.bags.proofs.Folds.{fold_op_bag}
-use Rattle.bags.proofs.Permutations.{length-SameBag}
-use Rattle.bags.proofs.Rows.{row_test, word_test}
 use Rattle.plain_operators.specs.Columns.{cut, word_at}
 use Rattle.plain_operators.specs.declared.aggregate.Aggregate.{Aggregate}
 use Rattle.plain_operators.specs.declared.aggregate.Aggregate.TheVariants.{Sum, Count, Least, Greatest}
 use Rattle.plain_operators.specs.Operators.{aggregated, aggregates_of, grouped_row}
 use Rattle.plain_operators.specs.Regroup.{AggregatesOfAppend}
+use Rattle.plain_operators.proofs.BagFacts.{BagLaws}
 
 pub min_assoc : (x y z : ℕ) → min (min x y) z ≡ min x (min y z)
 min_assoc x y z = omega arith
@@ -22,22 +19,22 @@ pub max_assoc : (x y z : ℕ) → max (max x y) z ≡ max x (max y z)
 max_assoc x y z = omega arith
 
 -- a fold over a column by an operation whose operands may be regrouped and exchanged
-fold_column : (op : ℕ → ℕ → ℕ) → ((x y z : ℕ) → op (op x y) z ≡ op x (op y z)) → ((x y : ℕ) → op x y ≡ op y x) → (start column : ℕ) {xs ys : List (List ℕ)} → SameBag xs ys
+fold_column : BagLaws → (op : ℕ → ℕ → ℕ) → ((x y z : ℕ) → op (op x y) z ≡ op x (op y z)) → ((x y : ℕ) → op x y ≡ op y x) → (start column : ℕ) {xs ys : List (List ℕ)} → SameBag xs ys
     → fold op start (map (word_at column) xs) ≡ fold op start (map (word_at column) ys)
-fold_column op assoc comm start column h = fold_op_bag op assoc comm word_test _ _ (SameBag-map row_test (word_at column) h) start
+fold_column laws op assoc comm start column {xs} {ys} h = laws.folds op assoc comm (map (word_at column) xs) (map (word_at column) ys) (laws.words.column (word_at column) xs ys h) start
 
-pub aggregated-SameBag : (aggregate : Aggregate) {xs ys : List (List ℕ)} → SameBag xs ys → aggregated aggregate xs ≡ aggregated aggregate ys
-aggregated-SameBag (Sum column) h = ap (λ n. n % 2 ^ 64) (fold_column (λ a x. a + x) add_assoc add_comm 0 column h)
-aggregated-SameBag Count h = length-SameBag row_test h
-aggregated-SameBag (Least column) h = fold_column min min_assoc min_comm (2 ^ 64 - 1) column h
-aggregated-SameBag (Greatest column) h = fold_column max max_assoc max_comm 0 column h
+pub aggregated-SameBag : BagLaws → (aggregate : Aggregate) {xs ys : List (List ℕ)} → SameBag xs ys → aggregated aggregate xs ≡ aggregated aggregate ys
+aggregated-SameBag laws (Sum column) h = ap (λ n. n % 2 ^ 64) (fold_column laws (λ a x. a + x) add_assoc add_comm 0 column h)
+aggregated-SameBag laws Count {xs} {ys} h = laws.keep.lengths xs ys h
+aggregated-SameBag laws (Least column) h = fold_column laws min min_assoc min_comm (2 ^ 64 - 1) column h
+aggregated-SameBag laws (Greatest column) h = fold_column laws max max_assoc max_comm 0 column h
 
-pub aggregates_of-SameBag : (aggregates : List Aggregate) {xs ys : List (List ℕ)} → SameBag xs ys → aggregates_of aggregates xs ≡ aggregates_of aggregates ys
-aggregates_of-SameBag [] h = refl
-aggregates_of-SameBag (aggregate ∷ rest) h = λ i. aggregated-SameBag aggregate h i ∷ aggregates_of-SameBag rest h i
+pub aggregates_of-SameBag : BagLaws → (aggregates : List Aggregate) {xs ys : List (List ℕ)} → SameBag xs ys → aggregates_of aggregates xs ≡ aggregates_of aggregates ys
+aggregates_of-SameBag laws [] h = refl
+aggregates_of-SameBag laws (aggregate ∷ rest) h = λ i. aggregated-SameBag laws aggregate h i ∷ aggregates_of-SameBag laws rest h i
 
-pub grouped_row-SameBag : (keys : List ℕ) (aggregates : List Aggregate) {xs ys : List (List ℕ)} → SameBag xs ys → (key : List ℕ) → grouped_row keys aggregates xs key ≡ grouped_row keys aggregates ys key
-grouped_row-SameBag keys aggregates h key = ap (λ words. key ++ words) (aggregates_of-SameBag aggregates (SameBag-filter row_test (λ row. row_eq (cut keys row) key) h))
+pub grouped_row-SameBag : BagLaws → (keys : List ℕ) (aggregates : List Aggregate) {xs ys : List (List ℕ)} → SameBag xs ys → (key : List ℕ) → grouped_row keys aggregates xs key ≡ grouped_row keys aggregates ys key
+grouped_row-SameBag laws keys aggregates {xs} {ys} h key = ap (λ words. key ++ words) (aggregates_of-SameBag laws aggregates (laws.filters (λ row. row_eq (cut keys row) key) xs ys h))
 
 fold_min_out : (start a : ℕ) (words : List ℕ) → fold min (min start a) words ≡ min a (fold min start words)
 fold_min_out start a [] = omega arith

@@ -8,13 +8,12 @@ use Rattle.std.proofs.lemmas.Bool.{false_from_ne_true, lt-ltb}
 use Rattle.std.proofs.lemmas.List.Elements.{All-cons, All-head, All-tail, All-filter, filter-append, filter_agree, filter_passes}
 use Rattle.std.proofs.lemmas.List.Folds.{list_any-append}
 use Rattle.bags.specs.Bag.{SameBag, count_of, row_eq}
-use Rattle.bags.proofs.Bags.{eq_itself, occurrences-filter}
-use Rattle.bags.proofs.Rows.{row_test}
 use Rattle.plain_operators.specs.Operators.{distinct_rows}
+use Rattle.plain_operators.proofs.BagFacts.{count_of-filter, row_decides, row_itself}
 use Rattle.plain_operators.proofs.Lists.{filter_all, filter_none, filter_filter}
 
 pub same_row : (x y : List ℕ) → row_eq x y ≡ true → x ≡ y
-same_row x y = (row_test.decides x y).0
+same_row x y = (row_decides x y).0
 
 pub other_row : (x y : List ℕ) → x ≢ y → row_eq x y ≡ false
 other_row x y apart = false_from_ne_true (row_eq x y) (λ e. apart (same_row x y e))
@@ -23,7 +22,7 @@ pub count_of-distinct_rows : (row : List ℕ) (rows : List (List ℕ)) → count
 count_of-distinct_rows row [] = refl
 count_of-distinct_rows row (x ∷ xs) =
     let rest = count_of-distinct_rows row xs in
-    let left = occurrences-filter row_test (λ other. not (row_eq other x)) row (distinct_rows xs) in
+    let left = count_of-filter (λ other. not (row_eq other x)) row (distinct_rows xs) in
     rw left (by (row_eq row x) rest)
   where
     by : (b : Bool) → count_of row (distinct_rows xs) ≡ min 1 (count_of row xs) → cond b 1 0 + cond (not b) (count_of row (distinct_rows xs)) 0 ≡ min 1 (cond b 1 0 + count_of row xs)
@@ -50,7 +49,7 @@ distinct_front row (x ∷ y ∷ ys) rest alike some =
     let shorter = distinct_front row (y ∷ ys) rest (All-tail (λ z. z ≡ row) x (y ∷ ys) alike) (omega arith) in
     let left = filter p (distinct_rows rest) in
     let again : filter p left ≡ left = filter_all p left (filter_passes p (distinct_rows rest)) in
-    let gone : filter p (row ∷ left) ≡ left = rw (eq_itself row_test row) again in
+    let gone : filter p (row ∷ left) ≡ left = rw (row_itself row) again in
     ap (λ z. z ∷ filter (λ other. not (row_eq other z)) (distinct_rows ((y ∷ ys) ++ rest))) is ∙ ap (λ l. row ∷ filter p l) shorter ∙ ap (λ l. row ∷ l) gone
 
 -- whether a row is among others

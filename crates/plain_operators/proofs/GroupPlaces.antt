@@ -5,8 +5,7 @@ use Rattle.std.proofs.lemmas.List.{get_or-map, get_or_default, length-map}
 use Rattle.std.proofs.lemmas.List.FromFn.{get_or-range_with_len, length-range_with_len}
 use Rattle.std.proofs.lemmas.List.Elements.{All-get_or, All-map, All-same, All-weaker, filter_passes}
 use Rattle.bags.specs.Bag.{row_eq}
-use Rattle.bags.proofs.Bags.{eq_itself}
-use Rattle.bags.proofs.Rows.{row_test}
+use Rattle.plain_operators.proofs.BagFacts.{row_itself}
 use Rattle.plain_operators.specs.declared.aggregate.Aggregate.{Aggregate}
 use Rattle.plain_operators.specs.Columns.{cut}
 use Rattle.plain_operators.specs.Laws.{block_key, block_row}
@@ -47,7 +46,7 @@ filled rows k d below =
     let p = λ (place : ℕ). row_eq (row_at rows place) (get_or rows k d) in
     let at : get_or (range_with_len 0 n) k 0 ≡ k = let found = get_or-range_with_len 0 n k 0 below in omega (arith, found) in
     let here : row_at rows k ≡ get_or rows k d = get_or_default rows k [] d below in
-    let passes : p (get_or (range_with_len 0 n) k 0) ≡ true = ap p at ∙ ap (λ row. row_eq row (get_or rows k d)) here ∙ eq_itself row_test (get_or rows k d) in
+    let passes : p (get_or (range_with_len 0 n) k 0) ≡ true = ap p at ∙ ap (λ row. row_eq row (get_or rows k d)) here ∙ row_itself (get_or rows k d) in
     filter_has p (range_with_len 0 n) k 0 (subst (λ m. k < m) (sym (length-range_with_len 0 n)) below) passes
 
 pub distinct_filled : (rows : List (List ℕ)) → All (λ key. 0 < length (places_with rows key)) (distinct_rows rows)

@@ -5,22 +5,20 @@ use Rattle.std.specs.List.{AllByRecursion, IsDistinct, filter, flat_map, range_w
 use Rattle.std.proofs.lemmas.List.{append-nil, length-map, map-append, map-id}
 use Rattle.std.proofs.lemmas.List.Elements.{All-nil, All-append, All-cons, All-head, All-map, All-tail, All-weaker, filter-append}
 use Rattle.bags.specs.Bag.{SameBag, row_eq}
-use Rattle.bags.proofs.Bags.{SameBag-map, SameBag-same, SameBag-trans}
-use Rattle.bags.proofs.Permutations.{length-SameBag, map_places}
-use Rattle.bags.proofs.Rows.{row_test}
 use Rattle.plain_operators.specs.Columns.{cut}
 use Rattle.plain_operators.specs.declared.aggregate.Aggregate.{Aggregate}
 use Rattle.plain_operators.specs.Operators.{aggregates_of, distinct_rows, grouped_row, grouped_rows, key_lists, rows_with, whole_table_rows}
 use Rattle.plain_operators.specs.Laws.{AreBlocks, GroupOfBlocks, WholeTableIsGroup, DistinctIsGroup, block_key, block_row}
 use Rattle.plain_operators.proofs.Aggregates.{grouped_row-SameBag, aggregates_of-SameBag}
+use Rattle.plain_operators.proofs.BagFacts.{BagLaws, bag_along, map_places, row_decides, same_bag}
 use Rattle.plain_operators.proofs.DistinctRows.{All-distinct_rows, SameBag-distinct_rows, distinct_front, other_row}
 use Rattle.plain_operators.proofs.Lists.{map_same, map_agree, filter_all, filter_none}
 
-pub grouped_rows-SameBag : (keys : List ℕ) (aggregates : List Aggregate) {xs ys : List (List ℕ)} → SameBag xs ys → SameBag (grouped_rows keys aggregates xs) (grouped_rows keys aggregates ys)
-grouped_rows-SameBag keys aggregates {xs} {ys} h =
-    let lists = SameBag-distinct_rows (SameBag-map row_test (cut keys) h) in
-    let moved = SameBag-map row_test (grouped_row keys aggregates xs) lists in
-    SameBag-trans moved (SameBag-same (map_same (grouped_row keys aggregates xs) (grouped_row keys aggregates ys) (grouped_row-SameBag keys aggregates h) (key_lists keys ys)))
+pub grouped_rows-SameBag : BagLaws → (keys : List ℕ) (aggregates : List Aggregate) {xs ys : List (List ℕ)} → SameBag xs ys → SameBag (grouped_rows keys aggregates xs) (grouped_rows keys aggregates ys)
+grouped_rows-SameBag laws keys aggregates {xs} {ys} h =
+    let lists = SameBag-distinct_rows (laws.maps (cut keys) xs ys h) in
+    let moved = laws.maps (grouped_row keys aggregates xs) (key_lists keys xs) (key_lists keys ys) lists in
+    bag_along moved (same_bag (map_same (grouped_row keys aggregates xs) (grouped_row keys aggregates ys) (grouped_row-SameBag laws keys aggregates h) (key_lists keys ys)))
 
 module _ (keys : List ℕ) (aggregates : List Aggregate) where
   -- one block of rows with one key, in front of rows that don't have it
@@ -36,7 +34,7 @@ module _ (keys : List ℕ) (aggregates : List Aggregate) where
     rows_with_own : rows_with keys (block ++ rest) key ≡ block
     rows_with_own =
         let p = λ (row : List ℕ). row_eq (cut keys row) key in
-        let all : All (λ row. p row ≡ true) block = All-weaker (λ row. cut keys row ≡ key) (λ row. p row ≡ true) (λ row e. (row_test.decides (cut keys row) key).1 e) block alike in
+        let all : All (λ row. p row ≡ true) block = All-weaker (λ row. cut keys row ≡ key) (λ row. p row ≡ true) (λ row e. (row_decides (cut keys row) key).1 e) block alike in
         let none : All (λ row. p row ≡ false) rest = All-weaker (λ row. cut keys row ≢ key) (λ row. p row ≡ false) (λ row ne. other_row (cut keys row) key ne) rest apart in
         filter-append p block rest ∙ (λ i. filter_all p block all i ++ filter_none p rest none i) ∙ append-nil block
 
@@ -61,7 +59,7 @@ module _ (keys : List ℕ) (aggregates : List Aggregate) where
   apart_from_blocks key (block ∷ blocks) alike apart =
       let Q : List ℕ → Type 0 = λ row. cut keys row ≢ key in
       let A : List (List ℕ) → Type 0 = λ b. All (λ row. cut keys row ≡ block_key keys b) b in
-      let ne : (row : List ℕ) → cut keys row ≡ block_key keys block → Q row = λ row e same. true≢false (sym ((row_test.decides key (block_key keys block)).1 (sym same ∙ e)) ∙ apart.0) in
+      let ne : (row : List ℕ) → cut keys row ≡ block_key keys block → Q row = λ row e same. true≢false (sym ((row_decides key (block_key keys block)).1 (sym same ∙ e)) ∙ apart.0) in
       All-append Q block (flat_map (λ b. b) blocks) (All-weaker (λ row. cut keys row ≡ block_key keys block) Q ne block (All-head A block blocks alike)) (apart_from_blocks key blocks (All-tail A block blocks alike) apart.1)
 
   of_blocks : (blocks : List (List (List ℕ))) → All (λ block. 0 < length block) blocks → All (λ block. All (λ row. cut keys row ≡ block_key keys block) block) blocks
@@ -100,8 +98,8 @@ distinct_is_group width rows wide =
     let lists : key_lists columns rows ≡ distinct_rows rows = ap distinct_rows (map_agree (cut columns) (λ row. row) rows all ∙ map-id rows) in
     sym (map_same (grouped_row columns [] rows) (λ key. key) append-nil (key_lists columns rows) ∙ map-id (key_lists columns rows) ∙ lists)
 
-pub whole_table_rows-SameBag : (aggregates : List Aggregate) {xs ys : List (List ℕ)} → SameBag xs ys → whole_table_rows aggregates xs ≡ whole_table_rows aggregates ys
-whole_table_rows-SameBag aggregates {xs = []} {ys = []} h = refl
-whole_table_rows-SameBag aggregates {xs = []} {ys = y ∷ ys} h = absurd (omega (arith, length-SameBag row_test h))
-whole_table_rows-SameBag aggregates {xs = x ∷ xs} {ys = []} h = absurd (omega (arith, length-SameBag row_test h))
-whole_table_rows-SameBag aggregates {xs = x ∷ xs} {ys = y ∷ ys} h = ap (λ row. row ∷ []) (aggregates_of-SameBag aggregates h)
+pub whole_table_rows-SameBag : BagLaws → (aggregates : List Aggregate) {xs ys : List (List ℕ)} → SameBag xs ys → whole_table_rows aggregates xs ≡ whole_table_rows aggregates ys
+whole_table_rows-SameBag laws aggregates {xs = []} {ys = []} h = refl
+whole_table_rows-SameBag laws aggregates {xs = []} {ys = y ∷ ys} h = absurd (omega (arith, laws.keep.lengths [] (y ∷ ys) h))
+whole_table_rows-SameBag laws aggregates {xs = x ∷ xs} {ys = []} h = absurd (omega (arith, laws.keep.lengths (x ∷ xs) [] h))
+whole_table_rows-SameBag laws aggregates {xs = x ∷ xs} {ys = y ∷ ys} h = ap (λ row. row ∷ []) (aggregates_of-SameBag laws aggregates h)

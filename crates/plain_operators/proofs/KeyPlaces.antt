@@ -8,8 +8,7 @@ use Rattle.std.proofs.lemmas.List.{append-nil, get_or_append_left, get_or_push, 
 use Rattle.std.proofs.lemmas.List.Elements.{All-cons, All-filter, All-get_or, All-nil, All-weaker, filter-append}
 use Rattle.std.specs.Cmp.Lexicographic.{nat_list_eq_equiv}
 use Rattle.bags.specs.Bag.{row_eq}
-use Rattle.bags.proofs.Bags.{eq_itself}
-use Rattle.bags.proofs.Rows.{row_test}
+use Rattle.plain_operators.proofs.BagFacts.{row_decides, row_itself}
 use Rattle.plain_operators.specs.Index.{GathersPlaces, place_in}
 use Rattle.plain_operators.specs.Operators.{distinct_rows}
 use Rattle.plain_operators.specs.Places.{grouped_places, places_of, places_with, row_at}
@@ -46,7 +45,7 @@ AreApart-distinct_rows (x ∷ xs) =
       where
         by : (b : Bool) → row_eq y x ≡ b → All (λ other. other ≢ x) (filter (λ row. not (row_eq row x)) ys) → All (λ other. other ≢ x) (cond (not b) (y ∷ filter (λ row. not (row_eq row x)) ys) (filter (λ row. not (row_eq row x)) ys))
         by true e rest = rest
-        by false e rest = All-cons (λ other. other ≢ x) y (filter (λ row. not (row_eq row x)) ys) (λ same. true≢false (sym ((row_test.decides y x).1 same) ∙ e)) rest
+        by false e rest = All-cons (λ other. other ≢ x) y (filter (λ row. not (row_eq row x)) ys) (λ same. true≢false (sym ((row_decides y x).1 same) ∙ e)) rest
 
 -- one more row behind the others
 place_in-push : (rows : List (List ℕ)) (row other : List ℕ) → place_in (rows ++ row ∷ []) other ≡ place_or (place_in rows other) (row_eq other row) (length rows)
@@ -97,7 +96,7 @@ map_at_place {Y} f g row same (x ∷ xs) apart place found = by (λ j l. map_at_
     by deeper false e (Some j) l is =
         let next : suc j ≡ place = cc in
         let rest = deeper j l in
-        let apart_here : g x ≡ f x = same x (λ is_row. true≢false (sym ((row_test.decides row x).1 (sym is_row)) ∙ e)) in
+        let apart_here : g x ≡ f x = same x (λ is_row. true≢false (sym ((row_decides row x).1 (sym is_row)) ∙ e)) in
         let at_next : Changed (suc j) = (omega (arith, rest.0), (λ i. apart_here i ∷ rest.1 i), rest.2) in
         subst Changed next at_next
 
@@ -124,7 +123,7 @@ none_from_among : (rows : List (List ℕ)) (row : List ℕ) → among rows row �
 none_from_among [] row none = All-nil (λ other. other ≢ row)
 none_from_among (x ∷ xs) row none =
     let parts = or_parts (row_eq row x) (among xs row) none in
-    All-cons (λ other. other ≢ row) x xs (λ is. true≢false (sym ((row_test.decides row x).1 (sym is)) ∙ parts.0)) (none_from_among xs row parts.1)
+    All-cons (λ other. other ≢ row) x xs (λ is. true≢false (sym ((row_decides row x).1 (sym is)) ∙ parts.0)) (none_from_among xs row parts.1)
 
 pub places_with_none : (rows : List (List ℕ)) (row : List ℕ) → among rows row ≡ false → places_with rows row ≡ []
 places_with_none rows row none =
@@ -141,7 +140,7 @@ module _ (numbers : List ℕ → Option ℕ) (groups rows : List (List ℕ)) (ro
       places_with-push rows row other ∙ ap (λ b. places_with rows other ++ cond b (length rows ∷ []) []) e ∙ append-nil (places_with rows other)
 
   own_more : places_with (rows ++ row ∷ []) row ≡ places_with rows row ++ length rows ∷ []
-  own_more = places_with-push rows row row ∙ ap (λ b. places_with rows row ++ cond b (length rows ∷ []) []) (eq_itself row_test row)
+  own_more = places_with-push rows row row ∙ ap (λ b. places_with rows row ++ cond b (length rows ∷ []) []) (row_itself row)
 
   -- a row that was there gets one more place
   pub gathers_known : (number : ℕ) → numbers row ≡ Some number

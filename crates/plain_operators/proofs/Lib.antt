@@ -1,4 +1,5 @@
 pub mod Aggregates
+pub mod BagFacts
 pub mod Columns
 pub mod Cuts
 pub mod DistinctRows

@@ -1,7 +1,7 @@
 -- Filter and join by the places of rows.
 use Rattle.std.proofs.Common.{◌≡◌, ℕ, Bool, List, [], map, sym, ◌∙◌, ap}
 use Rattle.std.specs.List.{filter, flat_map, list_all}
-use Rattle.bags.proofs.Permutations.{map_places}
+use Rattle.plain_operators.proofs.BagFacts.{map_places}
 use Rattle.plain_operators.specs.Operators.{have_equal_keys, joined_row, joined_rows_of}
 use Rattle.plain_operators.specs.Places.{FilterOfPlaces, JoinOfPlaces, places_of, row_at}
 use Rattle.plain_operators.proofs.Lists.{map_map, flat_map_same, flat_map-map, map-flat_map, filter-map}

@@ -6,7 +6,7 @@ use Rattle.std.proofs.lemmas.Bool.{or_parts}
 use Rattle.std.proofs.lemmas.List.{drop-drop, drop_at, get_or-drop, get_or_append_left, length-append, map-id}
 use Rattle.std.proofs.lemmas.List.Elements.{All-map, All-weaker, filter-append}
 use Rattle.bags.specs.Bag.{row_eq}
-use Rattle.bags.proofs.Permutations.{map_places}
+use Rattle.plain_operators.proofs.BagFacts.{map_places}
 use Rattle.plain_operators.specs.Columns.{cut, word_at}
 use Rattle.plain_operators.specs.declared.aggregate.Aggregate.{Aggregate}
 use Rattle.plain_operators.specs.declared.aggregate.Aggregate.TheVariants.{Sum, Count, Least, Greatest}

@@ -10,12 +10,21 @@ ghost use Rattle.plain_operators.specs.Sizes.{ItemsGiveWords, OperatorCounts, Op
 /// Each operator gives the same bag for the same bags.
 pub fn operators_keep_bags()
     ensures { OperatorsKeepBags }
-{}
+{
+    bags::laws::bags_keep_rows();
+    bags::laws::bags_of_map();
+    bags::laws::bags_of_filter();
+    bags::laws::bags_of_flat_map();
+    bags::laws::fold_of_words();
+    bags::laws::words_of_rows();
+}
 
 /// Filter, select and join of appended lists.
 pub fn operators_of_append()
     ensures { OperatorsOfAppend }
-{}
+{
+    bags::laws::bags_of_flat_map();
+}
 
 /// Rows cut into blocks of equal keys have as their group one row for each block.
 pub fn group_of_blocks()

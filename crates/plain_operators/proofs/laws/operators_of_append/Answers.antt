@@ -12,5 +12,5 @@ returns c = record {
   kept = λ tests. filter-append (λ row. list_all (λ test. test row) tests);
   items = λ items. map-append (λ row. map (λ item. item row) items);
   left = λ keys xs ys rights. flat_map-append (joined_rows_of keys rights) xs ys;
-  right = joined_rows-append_right;
+  right = joined_rows-append_right c.bags_of_flat_map.ensures;
 }
