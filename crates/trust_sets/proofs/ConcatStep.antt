@@ -51,7 +51,7 @@ module _ (party : ℕ) where
         let all = rows_of_all (known s) sources knows in
         All-cons (λ s. KnowsRows party (known s)) s sources all.0 all.1
 
-    concat_column : (column : ℕ) (sources : List ℕ) → KnowsColumn party (known_concat (map known sources)) column → All (λ s. KnowsColumn party (known s) column) sources
+    pub concat_column : (column : ℕ) (sources : List ℕ) → KnowsColumn party (known_concat (map known sources)) column → All (λ s. KnowsColumn party (known s) column) sources
     concat_column column [] knows = All-nil (λ s. KnowsColumn party (known s) column)
     concat_column column (s ∷ sources) knows =
         let all = column_of_all column (known s) sources knows in

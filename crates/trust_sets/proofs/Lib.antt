@@ -17,3 +17,4 @@ pub mod Walk
 pub mod NodeTables
 pub mod KnownColumns
 pub mod SameRows
+pub mod MayKnow

@@ -8,3 +8,4 @@ pub mod Agreement
 pub mod Steps
 pub mod Differs
 pub mod Rules
+pub mod MayKnow

@@ -2,9 +2,12 @@
 #![tactic(auto)]
 
 ghost use Rattle.trust_sets.specs.Laws.{ColumnsWithinRows, KeysAreKnown, NodesKnowFromEarlier, WhatRowsNeed};
+ghost use Rattle.trust_sets.specs.MayKnow.{AgreementIsEquivalence, KnownColumnsAreSame, RowsNarrow, WhatColumnsNeed};
 ghost use Rattle.trust_sets.specs.Rules.{RulesInWords};
 ghost use Rattle.trust_sets.specs.Steps.{TrustLemma, TrustSteps};
 ghost use Rattle.trust_sets.specs.Under.{WithheldIsFirst};
+
+use bags::laws::bags_are_equivalence;
 
 /// Who may know the rows of an operator, or a column of a select, may know the rows of its sources and the columns
 /// on which these depend: tested columns, keys on both sides, all columns of a distinct, what an item uses.
@@ -62,3 +65,32 @@ pub fn trust_lemma()
 pub fn rules_in_words()
     ensures { RulesInWords }
 {}
+
+/// Who may know a column of an operator's rows may know the columns of its sources from which it comes: of a filter and
+/// of a concat the same columns, the column of an aggregate, and a join's other columns on each side.
+#[tactic(auto, using(crate::proofs::MayKnow::what_columns_need))]
+pub fn what_columns_need()
+    ensures { WhatColumnsNeed }
+{}
+
+/// Columns that a party may each know have the same bag in rows that are the same for it; so has a node whose rows it may
+/// know, in two worlds whose files agree for it.
+#[tactic(auto, using(crate::proofs::MayKnow::known_columns_are_same))]
+pub fn known_columns_are_same()
+    ensures { KnownColumnsAreSame }
+{}
+
+/// Rows that are the same for a party stay so with fewer known columns; a source's rows do with those of a concat, whose
+/// parts they are.
+#[tactic(auto, using(crate::proofs::MayKnow::rows_narrow))]
+pub fn rows_narrow()
+    ensures { RowsNarrow }
+{}
+
+/// Agreement of two worlds is an equivalence.
+#[tactic(auto, using(crate::proofs::MayKnow::agreement_is_equivalence))]
+pub fn agreement_is_equivalence()
+    ensures { AgreementIsEquivalence }
+{
+    bags_are_equivalence();
+}

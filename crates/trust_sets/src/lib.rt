@@ -28,7 +28,8 @@ pub use check::check_trust;
 pub use derive::derive_trust;
 pub use fault::TrustFault;
 pub use laws::{
-    columns_within_rows, keys_are_known, nodes_know_from_earlier, rules_in_words, trust_lemma,
-    trust_steps, what_rows_need, withheld_is_first,
+    agreement_is_equivalence, columns_within_rows, keys_are_known, known_columns_are_same,
+    nodes_know_from_earlier, rows_narrow, rules_in_words, trust_lemma, trust_steps,
+    what_columns_need, what_rows_need, withheld_is_first,
 };
 pub use trust::Trust;
