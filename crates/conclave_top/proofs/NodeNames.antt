@@ -28,7 +28,7 @@ use Rattle.words.specs.declared.column.Kind.TheVariants.{Flag}
 use Rattle.conclave_top.specs.declared.compile.Stop.{Stop}
 use Rattle.conclave_top.specs.Compile.{CompilesGraph}
 use Rattle.conclave_top.proofs.ReadFiles.{within_map}
-use Rattle.conclave_top.specs.Relations.{AreNamed, IsStored, file_of, files_of}
+use Rattle.conclave_top.specs.Relations.{IsStored, file_of, files_of}
 use Rattle.plain_meaning.specs.Fits.{relations}
 use Rattle.plain_meaning.specs.Meaning.{is_relation}
 
@@ -59,20 +59,6 @@ word_is_ascii (byte ∷ bytes) word (suc i) = bytes_are_ascii bytes (and_right (
 name_is_text : (bytes : List ℕ) → IsName bytes → IsUtf8 bytes
 name_is_text bytes is = IsUtf8-from_ascii bytes (word_is_ascii bytes is.word)
 
-nothing_is_text : IsUtf8 []
-nothing_is_text = IsUtf8-from_ascii [] (λ i. lit< tt)
-
--- the name that a statement defines
-body_name : (body : Body) → Fits body → IsUtf8 (name_of body)
-body_name (bodies.Relation r) fits = name_is_text r.name fits.real.1.0
-body_name (bodies.Filter f) fits = name_is_text f.name fits.real.0
-body_name (bodies.Select s) fits = name_is_text s.name fits.real.0
-body_name (bodies.Concat c) fits = name_is_text c.name fits.real.0
-body_name (bodies.Join j) fits = name_is_text j.name fits.real.0
-body_name (bodies.Group g) fits = name_is_text g.name fits.real.0
-body_name (bodies.Distinct d) fits = name_is_text d.name fits.real.0
-body_name (bodies.Output o) fits = nothing_is_text
-
 pub all_cons : {A : Type 0} (P : A → Type 0) (x : A) (xs : List A) → P x → All P xs → All P (x ∷ xs)
 all_cons P x xs here others zero d within = here
 all_cons P x xs here others (suc i) d within = others i d (omega arith)
@@ -82,20 +68,6 @@ all_first P x xs all = all 0 x (omega arith)
 
 all_others : {A : Type 0} (P : A → Type 0) (x : A) (xs : List A) → All P (x ∷ xs) → All P xs
 all_others P x xs all i d within = all (suc i) d (omega arith)
-
-names_of_statements : (nodes : List Node) (statements : List Statement) (made : List Node) → All (λ (s : Statement). Fits s.body) statements → AllZip (IsNodeOf nodes) statements made
-    → All (λ (node : Node). IsUtf8 node.name) made
-names_of_statements nodes [] [] fit zip = All-nil (λ (node : Node). IsUtf8 node.name)
-names_of_statements nodes [] (n ∷ made) fit zip = absurd zip
-names_of_statements nodes (s ∷ statements) [] fit zip = absurd zip
-names_of_statements nodes (s ∷ statements) (n ∷ made) fit zip =
-    all_cons (λ (node : Node). IsUtf8 node.name) n made (subst IsUtf8 (sym zip.0.name) (body_name s.body (all_first (λ (s : Statement). Fits s.body) s statements fit)))
-    (names_of_statements nodes statements made (all_others (λ (s : Statement). Fits s.body) s statements fit) zip.1)
-
--- the names of a query's graph
-pub graph_names : (statements : List Statement) (graph : Content) → AreStatements statements → IsGraphOf statements graph → All (λ (node : Node). IsUtf8 node.name) graph.nodes
-graph_names statements graph are made =
-    names_of_statements graph.nodes (filter (λ s. not (is_output s)) statements) graph.nodes (All-filter (λ s. not (is_output s)) (λ (s : Statement). Fits s.body) statements are.fit) made.made.nodes
 
 -- a node of a graph that is a relation has no column of flags
 relation_columns : (nodes : List Node) (i : ℕ) (n : Node) (shape : Operator) → is_relation shape ≡ true → FitsSources nodes i n shape → All (λ (c : Column). c.kind ≢ Flag) n.columns
@@ -111,11 +83,11 @@ relation_columns nodes i n (operators.Distinct d) is fits = cc
 abbrev pub StoredOr : Node → Type 0
 StoredOr node = is_relation node.shape ≡ true → IsStored node
 
-each_stored : (graph : Content) → IsGraph graph → All (λ (node : Node). IsUtf8 node.name) graph.nodes → All StoredOr graph.nodes
-each_stored graph is names i d within relation =
+each_stored : (graph : Content) → IsGraph graph → All StoredOr graph.nodes
+each_stored graph is i d within relation =
     let node : Node = slice_index_or graph.nodes i d in
     let fits : IsNode graph.nodes i node = is.nodes i node (slice_get-get_or graph.nodes i d within) in
-    record { name = names i d within; columns = relation_columns graph.nodes i node node.shape relation fits.sources }
+    record { name = name_is_text node.name fits.name; columns = relation_columns graph.nodes i node node.shape relation fits.sources }
 
 kept_with : (n : Node) (nodes : List Node) → All StoredOr (n ∷ nodes) → All IsStored (relations nodes) → (b : Bool) → is_relation n.shape ≡ b → All IsStored (relations (n ∷ nodes))
 kept_with n nodes all others true is = rw is (all_cons IsStored n (relations nodes) (all_first StoredOr n nodes all is) others)
@@ -126,34 +98,13 @@ kept_stored [] all = All-nil IsStored
 kept_stored (n ∷ nodes) all = kept_with n nodes all (kept_stored nodes (all_others StoredOr n nodes all)) (is_relation n.shape) refl
 
 -- the relations of a graph can be kept in files
-pub relations_stored : (graph : Content) → IsGraph graph → All (λ (node : Node). IsUtf8 node.name) graph.nodes → All IsStored (relations graph.nodes)
-relations_stored graph is names = kept_stored graph.nodes (each_stored graph is names)
+pub relations_stored : (graph : Content) → IsGraph graph → All IsStored (relations graph.nodes)
+relations_stored graph is = kept_stored graph.nodes (each_stored graph is)
 
 -- and so can lent ones
 pub lent_stored : (lent : List (Bor Node)) (relations : List Node) → map (λ node. node.now) lent ≡ relations → All IsStored relations → All (λ node. IsStored node.now) lent
 lent_stored lent relations same all i d within =
     subst IsStored (get_or-map (λ node. node.now) lent i d d.now within) (subst (All IsStored) (sym same) all i d.now (within_map (λ node. node.now) lent i within))
-
--- what is told of a graph is told of it again
-pub same_told : (P : Content → Type 0) (graph : Content) (answer : Result Content Stop) → CompilesGraph graph answer → P graph → IfOk answer P
-same_told P graph (Ok same) compiles told = subst P (sym compiles.0) told
-same_told P graph (Err stop) compiles told = tt
-
--- the statements of a query's lines are ones that a text can hold
-fit_of_lines : (n : ℕ) (lines : List (List ℕ)) (statements : List Statement) → AreLines n lines statements → All (λ (s : Statement). Fits s.body) statements
-fit_of_lines n [] statements are = subst (All (λ (s : Statement). Fits s.body)) (sym are) (All-nil (λ (s : Statement). Fits s.body))
-fit_of_lines n (line ∷ lines) statements (inl blank) = fit_of_lines (n + 1) lines statements blank.1
-fit_of_lines n (line ∷ lines) statements (inr filled) =
-    subst (All (λ (s : Statement). Fits s.body)) (sym filled.2) (all_cons (λ (s : Statement). Fits s.body) (on_line n filled.0) filled.1 filled.3.fits (fit_of_lines (n + 1) lines filled.1 filled.4))
-
--- the names of a compiled graph
-pub compiled_names : (text : List ℕ) (statements : List Statement) (graph : Content) → IsQuery text statements → IsGraphOf statements graph → AreNamed graph.nodes
-compiled_names text statements graph query made =
-    graph_names statements graph (record { fit = fit_of_lines 1 (lines_of text) statements query.lines; few = query.few }) made
-
-pub compiled_named : (text : List ℕ) (statements : List Statement) (answer : Result Content Stop) → IsQuery text statements → IfOk answer (λ graph. IsGraphOf statements graph) → IfOk answer (λ graph. AreNamed graph.nodes)
-compiled_named text statements (Ok graph) query made = compiled_names text statements graph query made
-compiled_named text statements (Err stop) query made = tt
 
 -- the names of lent relations' files
 pub lent_files : (lent : List (Bor Node)) (nodes : List Node) → map (λ node. node.now) lent ≡ relations nodes → map (λ node. file_of node.now) lent ≡ files_of nodes

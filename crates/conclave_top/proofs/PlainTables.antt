@@ -13,8 +13,7 @@ use Rattle.query_graph.specs.declared.node.Node.{Node}
 use Rattle.query_graph.specs.declared.operator.Operator.{Operator}
 use Rattle.query_graph.specs.declared.operator.Operator.TheVariants as operators
 use Rattle.tables.specs.Content as table
-use Rattle.tables.specs.File.{table_in}
-use Rattle.tables.specs.File as file
+use Rattle.tables.specs.File.{ReadTablesFit, table_in}
 use Rattle.tables.specs.Outcome.{and_then, map_ok}
 use Rattle.tables.specs.declared.fault.TableFault.{TableFault}
 use Rattle.plain_meaning.specs.Fits.{IsFileOf}
@@ -34,88 +33,10 @@ true_is_not_false : true ≡ false → ⊥
 true_is_not_false same = cc
 
 -- a table that is read has its relation's columns, and no more rows than declared
--- a table of these columns and of at most so many rows, each as long as the columns
-record Fits (columns : List Column) (declared : ℕ) (t : table.Content) : Type 0 where
-  pub same : t.columns ≡ columns
-  pub few : length t.rows ≤ declared
-  pub wide : All (λ row. length row ≡ length t.columns) t.rows
-
-count_step : {A : Type 0} (first : Result A TableFault) (others : Result (List A) TableFault) (n : ℕ) (all : List A) → ((more : List A) → others ≡ Ok more → length more ≡ n)
-    → and_then first (λ x. map_ok (λ xs. x ∷ xs) others) ≡ Ok all → length all ≡ suc n
-count_step (Ok x) (Ok more) n all count is =
-    let same : x ∷ more ≡ all = cc in
-    sym (ap length same) ∙ ap suc (count more refl)
-count_step (Ok x) (Err fault) n all count is = cc
-count_step (Err fault) others n all count is = cc
-
-words_count : (line column : ℕ) (kinds : List Kind) (fields : List (List ℕ)) (words : List ℕ) → file.words_of line column kinds fields ≡ Ok words → length words ≡ length kinds
-words_count line column [] fields words is =
-    let same : [] ≡ words = cc in
-    sym (ap length same)
-words_count line column (kind ∷ kinds) [] words is = cc
-words_count line column (kind ∷ kinds) (field ∷ fields) words is =
-    count_step (file.at_place line column (word_of kind field)) (file.words_of line (column + 1) kinds fields) (length kinds) words
-    (λ more here. words_count line (column + 1) kinds fields more here) is
-
-row_step : (line : ℕ) (kinds : List Kind) (fields : List (List ℕ)) (fits : Bool) (row : List ℕ)
-    → (if fits then file.words_of line 0 kinds fields else Err (file.fields_fault line)) ≡ Ok row → length row ≡ length kinds
-row_step line kinds fields true row is = words_count line 0 kinds fields row is
-row_step line kinds fields false row is = cc
-
-row_count : (line : ℕ) (kinds : List Kind) (fields : List (List ℕ)) (row : List ℕ) → file.row_of line kinds fields ≡ Ok row → length row ≡ length kinds
-row_count line kinds fields row is = row_step line kinds fields (length fields == length kinds) row is
-
-wide_step : (width : ℕ) (first : Result (List ℕ) TableFault) (others : Result (List (List ℕ)) TableFault) (rows : List (List ℕ)) → ((row : List ℕ) → first ≡ Ok row → length row ≡ width)
-    → ((more : List (List ℕ)) → others ≡ Ok more → All (λ row. length row ≡ width) more) → and_then first (λ row. map_ok (λ rows. row ∷ rows) others) ≡ Ok rows → All (λ row. length row ≡ width) rows
-wide_step width (Ok row) (Ok more) rows here behind is =
-    let same : row ∷ more ≡ rows = cc in
-    subst (All (λ row. length row ≡ width)) same (all_cons (λ row. length row ≡ width) row more (here row refl) (behind more refl))
-wide_step width (Ok row) (Err fault) rows here behind is = cc
-wide_step width (Err fault) others rows here behind is = cc
-
-rows_wide : (line : ℕ) (kinds : List Kind) (records : List (List (List ℕ))) (rows : List (List ℕ)) → file.rows_of line kinds records ≡ Ok rows → All (λ row. length row ≡ length kinds) rows
-rows_wide line kinds [] rows is =
-    let same : [] ≡ rows = cc in
-    subst (All (λ row. length row ≡ length kinds)) same (All-nil (λ row. length row ≡ length kinds))
-rows_wide line kinds (first ∷ rest) rows is =
-    wide_step (length kinds) (file.row_of line kinds first) (file.rows_of (line + 1) kinds rest) rows (row_count line kinds first) (λ more here. rows_wide (line + 1) kinds rest more here) is
-
-rows_count : (line : ℕ) (kinds : List Kind) (records : List (List (List ℕ))) (rows : List (List ℕ)) → file.rows_of line kinds records ≡ Ok rows → length rows ≡ length records
-rows_count line kinds [] rows is =
-    let same : [] ≡ rows = cc in
-    sym (ap length same)
-rows_count line kinds (first ∷ rest) rows is =
-    count_step (file.row_of line kinds first) (file.rows_of (line + 1) kinds rest) (length rest) rows (λ more here. rows_count (line + 1) kinds rest more here) is
-
-under_step : (columns : List Column) (declared : ℕ) (rest : List (List (List ℕ))) (over : Bool) (rows : Result (List (List ℕ)) TableFault) (t : table.Content) → nat_lt declared (length rest) ≡ over
-    → file.rows_of 2 (kinds_of columns) rest ≡ rows
-    → and_then (if over then Err (file.rows_fault declared (length rest)) else Ok (tt {0})) (λ _. map_ok (λ rows. record { columns = columns; rows = rows }) rows) ≡ Ok t
-    → Fits columns declared t
-under_step columns declared rest true rows t far read is = cc
-under_step columns declared rest false (Err fault) t far read is = cc
-under_step columns declared rest false (Ok rows) t far read is =
-    let made : table.Content = record { columns = columns; rows = rows } in
-    let same : made ≡ t = cc in
-    let few : length rest ≤ declared = grind (arith, common_steps) in
-    let wide : All (λ row. length row ≡ length columns) rows =
-    subst (λ n. All (λ row. length row ≡ n) rows) (length-map columns (λ (c : Column). c.kind)) (rows_wide 2 (kinds_of columns) rest rows read) in
-    subst (Fits columns declared) same (record { same = refl; few = subst (λ n. n ≤ declared) (sym (rows_count 2 (kinds_of columns) rest rows read)) few; wide = wide })
-
-header_step : (columns : List Column) (declared : ℕ) (rest : List (List (List ℕ))) (named : Bool) (t : table.Content)
-    → (if named then file.table_under columns declared rest else Err file.header_fault) ≡ Ok t → Fits columns declared t
-header_step columns declared rest false t is = cc
-header_step columns declared rest true t is =
-    under_step columns declared rest (nat_lt declared (length rest)) (file.rows_of 2 (kinds_of columns) rest) t refl refl is
-
-records_fit : (columns : List Column) (declared : ℕ) (records : List (List (List ℕ))) (t : table.Content) → file.table_of columns declared records ≡ Ok t
-    → Fits columns declared t
-records_fit columns declared [] t is = cc
-records_fit columns declared (header ∷ rest) t is = header_step columns declared rest (file.is_header (names_of columns) header) t is
-
-table_fits : (node : Node) (bytes : List ℕ) (t : table.Content) → table_in node.columns node.rows bytes ≡ Ok t → IsFileOf node t
-table_fits node bytes t is =
-    let fits = records_fit node.columns node.rows _ t is in
-    record { columns = fits.same; rows = fits.few; rectangular = fits.wide }
+table_fits : ReadTablesFit → (node : Node) (bytes : List ℕ) (t : table.Content) → table_in node.columns node.rows bytes ≡ Ok t → IsFileOf node t
+table_fits fit node bytes t is =
+    let fits = fit node.columns node.rows bytes t is in
+    record { columns = fits.same; rows = fits.few; rectangular = fits.wide; words = fits.words }
 
 files_step : (node : Node) (nodes : List Node) (first : Result table.Content TableFault) (others : Result (List table.Content) (List ℕ)) (tables : List table.Content)
     → ((t : table.Content) → first ≡ Ok t → IsFileOf node t) → ((more : List table.Content) → others ≡ Ok more → AllZip IsFileOf nodes more)
@@ -127,14 +48,14 @@ files_step node nodes (Ok t) (Ok more) tables here behind is =
     subst (AllZip IsFileOf (node ∷ nodes)) same (here t refl, behind more refl)
 
 -- the tables of all relations' files are what a world is made of
-pub files_are : (nodes : List Node) (bytes : List (List ℕ)) (tables : List table.Content) → length bytes ≡ length nodes → tables_of nodes bytes ≡ Ok tables → AllZip IsFileOf nodes tables
-files_are [] bytes tables count is =
+pub files_are : ReadTablesFit → (nodes : List Node) (bytes : List (List ℕ)) (tables : List table.Content) → length bytes ≡ length nodes → tables_of nodes bytes ≡ Ok tables → AllZip IsFileOf nodes tables
+files_are fit [] bytes tables count is =
     let same : [] ≡ tables = cc in
     subst (AllZip IsFileOf []) same tt
-files_are (node ∷ nodes) [] tables count is = absurd (zero_is_not_suc (length nodes) count)
-files_are (node ∷ nodes) (first ∷ bytes) tables count is =
-    files_step node nodes (table_in node.columns node.rows first) (tables_of nodes bytes) tables (table_fits node first)
-    (λ more here. files_are nodes bytes more (same_pred (length bytes) (length nodes) count) here) is
+files_are fit (node ∷ nodes) [] tables count is = absurd (zero_is_not_suc (length nodes) count)
+files_are fit (node ∷ nodes) (first ∷ bytes) tables count is =
+    files_step node nodes (table_in node.columns node.rows first) (tables_of nodes bytes) tables (table_fits fit node first)
+    (λ more here. files_are fit nodes bytes more (same_pred (length bytes) (length nodes) count) here) is
 
 unbounded_step : (node : Node) (nodes : List Node) (here : Bool) → is_bounded node.shape ≡ here → (if here then Some node.line else first_bound nodes) ≡ None → (here ≡ false) × (first_bound nodes ≡ None)
 unbounded_step node nodes true is none = cc

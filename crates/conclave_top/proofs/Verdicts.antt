@@ -46,10 +46,10 @@ some_is_not_none x o some none = cc
 
 -- and it isn't compiled then
 not_both : HasOneReading → (text line : List ℕ) (graph : Content) → IsRefused text line → IsCompiled text graph → ⊥
-not_both reading text line graph (inl a) compiled = (reading text).2 compiled.statements a.line a.column compiled.read a.fault
+not_both reading text line graph (inl a) compiled = (reading text).2 compiled.has.statements a.line a.column compiled.has.read a.fault
 not_both reading text line graph (inr a) compiled =
-    let same : a.statements ≡ compiled.statements = (reading text).1 a.statements compiled.statements a.read compiled.read in
-    some_is_not_none line (refusal_of (graph_of a.statements)) a.refused (ap (λ s. refusal_of (graph_of s)) same ∙ compiled.passes)
+    let same : a.statements ≡ compiled.has.statements = (reading text).1 a.statements compiled.has.statements a.read compiled.has.read in
+    some_is_not_none line (refusal_of (graph_of a.statements)) a.refused (ap (λ s. refusal_of (graph_of s)) same ∙ (ap refusal_of compiled.has.built ∙ compiled.passes))
 
 same_of_ok : {A E : Type 0} (x y : A) (r : Result A E) → r ≡ Ok x → r ≡ Ok y → x ≡ y
 same_of_ok x y r first second = cc
@@ -57,8 +57,8 @@ same_of_ok x y r first second = cc
 -- a text has one graph
 same_graph : HasOneReading → (text : List ℕ) (graph other : Content) → IsCompiled text graph → IsCompiled text other → graph ≡ other
 same_graph reading text graph other a b =
-    let same : a.statements ≡ b.statements = (reading text).1 a.statements b.statements a.read b.read in
-    same_of_ok graph other (graph_of b.statements) (sym (ap graph_of same) ∙ a.built) b.built
+    let same : a.has.statements ≡ b.has.statements = (reading text).1 a.has.statements b.has.statements a.has.read b.has.read in
+    same_of_ok graph other (graph_of b.has.statements) (sym (ap graph_of same) ∙ a.has.built) b.has.built
 
 -- over one graph one verdict is due
 same_over : (files : Files) (graph : Content) (first second : Verdict) → IsDueOver (Some files) graph first → IsDueOver (Some files) graph second → first ≡ second
@@ -111,7 +111,7 @@ of_query : (text : List ℕ) (statements : List Statement) → IsQuery text stat
     → ((line : List ℕ) × (refusal_of (graph_of statements) ≡ Some line)) ⊎ ((graph : Content) × (graph_of statements ≡ Ok graph) × (refusal_of (graph_of statements) ≡ None))
     → ((line : List ℕ) × IsRefused text line) ⊎ ((graph : Content) × IsCompiled text graph)
 of_query text statements read (inl refused) = inl (refused.0, inr (record { statements = statements; read = read; refused = refused.1 }))
-of_query text statements read (inr built) = inr (built.0, record { statements = statements; read = read; built = built.1; passes = built.2 })
+of_query text statements read (inr built) = inr (built.0, record { has = record { statements = statements; read = read; built = built.1 }; passes = sym (ap refusal_of built.1) ∙ built.2 })
 
 of_reading : (text : List ℕ) → ((q : List Statement) × IsQuery text q) ⊎ ((line : ℕ) × (column : ℕ) × IsFaultAt text line column)
     → ((line : List ℕ) × IsRefused text line) ⊎ ((graph : Content) × IsCompiled text graph)

@@ -5,6 +5,7 @@ use Rattle.query_text.specs.Text.{IsFaultAt, IsQuery}
 use Rattle.query_text.specs.declared.statement.Statement.{Statement}
 use Rattle.query_graph.specs.Build.{graph_of}
 use Rattle.query_graph.specs.Content.{Content}
+use Rattle.query_graph.specs.TextGraph as texts
 use Rattle.query_graph.specs.declared.fault.GraphFault.{GraphFault}
 use Rattle.trust_sets.specs.Faults.{first_fault}
 use Rattle.trust_sets.specs.Trust.{trust_of}
@@ -40,12 +41,10 @@ pub record IsRefusedQuery (text refusal : List ℕ) : Type 0 where
 abbrev pub IsRefused : List ℕ → List ℕ → Type 0
 IsRefused text refusal = IsNoQuery text refusal ⊎ IsRefusedQuery text refusal
 
--- a text is a query with this graph, and isn't refused
+-- a text has this graph, which isn't refused
 pub record IsCompiled (text : List ℕ) (graph : Content) : Type 0 where
-  pub statements : List Statement
-  pub read : IsQuery text statements
-  pub built : graph_of statements ≡ Ok graph
-  pub passes : refusal_of (graph_of statements) ≡ None
+  pub has : texts.HasGraph text graph
+  pub passes : graph_refusal graph ≡ None
 
 -- what compiling a graph, a query, a text gives
 abbrev pub CompilesGraph : Content → Result Content Stop → Type 0
@@ -54,7 +53,7 @@ CompilesGraph graph (Err (Refused line)) = refusal_of (Ok graph) ≡ Some line.i
 CompilesGraph graph (Err Memory) = ⊤
 
 abbrev pub CompilesQuery : List Statement → Result Content Stop → Type 0
-CompilesQuery statements (Ok graph) = (graph_of statements ≡ Ok graph) × (refusal_of (graph_of statements) ≡ None)
+CompilesQuery statements (Ok graph) = (graph_of statements ≡ Ok graph) × (graph_refusal graph ≡ None)
 CompilesQuery statements (Err (Refused line)) = refusal_of (graph_of statements) ≡ Some line.items
 CompilesQuery statements (Err Memory) = ⊤
 

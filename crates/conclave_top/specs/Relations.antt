@@ -20,10 +20,6 @@ use Rattle.conclave_top.specs.Lines.{file_line}
 abbrev pub file_of : Node → List ℕ
 file_of node = node.name ++ codes ".csv"
 
--- the names of these nodes are texts
-abbrev pub AreNamed : List Node → Type 0
-AreNamed nodes = All (λ (node : Node). IsUtf8 node.name) nodes
-
 -- a relation as a file keeps it: its name is a text, and no column is a flag
 pub record IsStored (node : Node) : Type 0 where
   pub name : IsUtf8 node.name

@@ -2,9 +2,7 @@
 
 ghost use Rattle.std.specs.Prelude.{◌≡◌, ◌≤◌, [], ◌∷◌, IfOk, option_map};
 ghost use Rattle.outside.specs.Cause.{Rose};
-ghost use Rattle.query_graph.specs.Statements.{IsGraphOf};
 ghost use Rattle.conclave_top.specs.Calls.{Called, CalledFront};
-ghost use Rattle.conclave_top.specs.Relations.{AreNamed};
 ghost use Rattle.conclave_top.specs.Compile.{graph_refusal, Compiles, CompilesFile, CompilesGraph, CompilesQuery};
 
 use crate::end::End;
@@ -42,7 +40,6 @@ pub(crate) fn compile_file<F: Folder>(
     files: &mut F,
 ) -> Result<Graph, End>
     ensures compiles { CompilesFile (F.files files.old) query.now (Rose (F.faults files.old) (F.faults files.new)) result }
-    ensures named { IfOk result (λ graph. AreNamed graph.nodes) }
     ensures called { IfOk result (λ _. Called (query.now ∷ []) (F.calls files.old) (F.calls files.new)) }
     ensures calls { CalledFront (query.now ∷ []) (F.calls files.old) (F.calls files.new) }
     ensures kept { F.files files.new ≡ F.files files.old }
@@ -63,7 +60,6 @@ pub(crate) fn compile_file<F: Folder>(
 /// The graph of a text, or the line of its refusal.
 fn compile(alloc: Global, text: &[u8]) -> Result<Graph, Stop>
     ensures compiles { Compiles text.now result }
-    ensures named { IfOk result (λ graph. AreNamed graph.nodes) }
 {
     match read_query(alloc, text) {
         Ok(query) => graph_of(alloc, &query),
@@ -77,7 +73,6 @@ fn compile(alloc: Global, text: &[u8]) -> Result<Graph, Stop>
 /// The graph of a query's statements, or the line of their refusal.
 fn graph_of(alloc: Global, query: &Query) -> Result<Graph, Stop>
     ensures compiles { CompilesQuery query.now result }
-    ensures made { IfOk result (λ graph. IsGraphOf query.now graph) }
 {
     match build(alloc, query) {
         Ok(graph) => checked(alloc, graph),

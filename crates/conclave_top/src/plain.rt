@@ -9,7 +9,7 @@ ghost use Rattle.conclave_top.specs.Command.{plain};
 ghost use Rattle.conclave_top.specs.Due.{IsDue};
 ghost use Rattle.conclave_top.specs.End.{Ended};
 ghost use Rattle.conclave_top.specs.Plain.{IsDueOver, verdict_of};
-ghost use Rattle.conclave_top.specs.Relations.{AreNamed, files_of, tables_of};
+ghost use Rattle.conclave_top.specs.Relations.{files_of, tables_of};
 ghost use Rattle.conclave_top.specs.Verdict.{prints};
 ghost use Rattle.plain_meaning.specs.Fits.{AreFiles, relations};
 
@@ -22,7 +22,7 @@ use crate::relations::{FileStop, file_names, read_all, read_tables};
 use outside::{Folder, FolderFault, Sink};
 use query_graph::Graph;
 use std::alloc::Global;
-use tables::Table;
+use tables::{Table, read_tables_fit};
 
 /// The command `plain`: reads the query and then the files of its relations, and writes its answers.
 pub(crate) fn plain<F: Folder, O: Sink>(
@@ -48,7 +48,6 @@ pub(crate) fn plain<F: Folder, O: Sink>(
 
 /// The same over a graph without a bound.
 fn over_graph<F: Folder, O: Sink>(alloc: Global, graph: &Graph, files: &mut F, out: &mut O) -> End
-    requires named { AreNamed graph.now.nodes }
     requires unbounded { first_bound graph.now.nodes ≡ None }
     ensures end { Ended (IsDueOver (F.files files.old) graph.now) (O.taken out.old) (O.taken out.new)
         (Rose (F.faults files.old) (F.faults files.new) ⊎ Rose (O.faults out.old) (O.faults out.new)) result }
@@ -67,12 +66,13 @@ fn over_graph<F: Folder, O: Sink>(alloc: Global, graph: &Graph, files: &mut F, o
 
 /// The same behind the files: over their bytes.
 fn over_files<O: Sink>(alloc: Global, graph: &Graph, bytes: &[Vec<u8>], out: &mut O) -> End
-    requires named { AreNamed graph.now.nodes }
     requires unbounded { first_bound graph.now.nodes ≡ None }
     requires as_many { length bytes.now ≡ length (relations graph.now.nodes) }
     ensures { Ended (λ verdict. verdict ≡ verdict_of graph.now (map (λ b. b.items) bytes.now)) (O.taken out.old) (O.taken out.new)
         (Rose (O.faults out.old) (O.faults out.new)) result }
 {
+    // What is read fits, so the tables make a world.
+    read_tables_fit();
     match read_tables(alloc, graph, bytes) {
         Ok(tables) => over_tables(alloc, graph, tables, out),
         Err(FileStop::Faulty(line)) => End::Faulty(line),

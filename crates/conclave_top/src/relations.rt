@@ -6,7 +6,7 @@ ghost use Rattle.outside.specs.Cause.{HasCause};
 ghost use Rattle.plain_meaning.specs.Fits.{relations};
 ghost use Rattle.plain_meaning.specs.Meaning.{is_relation};
 ghost use Rattle.conclave_top.specs.Calls.{CalledFront};
-ghost use Rattle.conclave_top.specs.Relations.{AreHeld, AreNamed, IsStored, files_of, GivesTable, GivesTables, file_of, table_of, tables_of};
+ghost use Rattle.conclave_top.specs.Relations.{AreHeld, IsStored, files_of, GivesTable, GivesTables, file_of, table_of, tables_of};
 
 use crate::lines::file_line;
 use outside::{Folder, FolderFault};
@@ -68,7 +68,6 @@ fn is_relation(shape: &Operator) -> bool
 
 /// The names of the files of a graph's relations, in the order of the text.
 pub(crate) fn file_names(alloc: Global, graph: &Graph) -> Result<Vec<String>, AllocError>
-    requires { AreNamed graph.now.nodes }
     ensures { IfOk result (λ names. map string_bytes names.items ≡ files_of graph.now.nodes) }
 {
     let relations = relations_of(alloc, graph.nodes())?;
@@ -124,7 +123,6 @@ pub(crate) fn read_tables(
     graph: &Graph,
     bytes: &[Vec<u8>],
 ) -> Result<Vec<Table>, FileStop>
-    requires named { AreNamed graph.now.nodes }
     requires as_many { length bytes.now ≡ length (relations graph.now.nodes) }
     ensures { GivesTables result (tables_of (relations graph.now.nodes) (map (λ b. b.items) bytes.now)) }
 {

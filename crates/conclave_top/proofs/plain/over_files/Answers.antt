@@ -8,5 +8,5 @@ use Rattle.conclave_top.proofs.plain.over_files.Goals as goal
 pub over_tables-requires-clause-files : goal.over_tables-requires-clause-files
 over_tables-requires-clause-files g c =
     let read : tables_of (relations c.args.graph.now.nodes) (map (λ b. b.items) c.args.bytes.now) ≡ Ok c.in-Ok.tables.items = search rules in
-    files_are (relations c.args.graph.now.nodes) (map (λ b. b.items) c.args.bytes.now) c.in-Ok.tables.items
+    files_are c.read_tables_fit.ensures (relations c.args.graph.now.nodes) (map (λ b. b.items) c.args.bytes.now) c.in-Ok.tables.items
     (length-map c.args.bytes.now (λ b. b.items) ∙ c.requires.as_many) read

@@ -6,7 +6,7 @@ use Rattle.conclave_top.proofs.relations.file_names.Goals as goal
 pub names_of-requires : goal.names_of-requires
 names_of-requires c =
     let same : map (λ node. node.now) c.deref-2.result.now ≡ relations c.args.graph.now.nodes = search rules in
-    lent_stored c.deref-2.result.now (relations c.args.graph.now.nodes) same (relations_stored c.args.graph.now c.nodes.ensures.graph c.requires)
+    lent_stored c.deref-2.result.now (relations c.args.graph.now.nodes) same (relations_stored c.args.graph.now c.nodes.ensures.graph)
 
 pub returns : goal.returns
 returns c =
