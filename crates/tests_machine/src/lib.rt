@@ -13,6 +13,8 @@ mod circuits_tests;
 #[cfg(test)]
 mod lanes_tests;
 #[cfg(test)]
+mod tapes_draws_tests;
+#[cfg(test)]
 mod tapes_tests;
 #[cfg(test)]
 mod wires_tests;
