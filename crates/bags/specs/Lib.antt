@@ -2,3 +2,4 @@ pub mod Bag
 pub mod Sorted
 pub mod Laws
 pub mod Words
+pub mod Images

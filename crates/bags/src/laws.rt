@@ -1,4 +1,5 @@
 //! Laws of bags and of the sorted list. Each function does nothing, and its contract is the law.
+ghost use Rattle.bags.specs.Images.{BagsOfTestedImages};
 ghost use Rattle.bags.specs.Laws.{BagsAreEquivalence, BagsArePermutations, BagsKeepRows, BagsOfAppend, BagsOfMap, BagsOfFilter, BagsOfFlatMap, BagsOfImages, BagsOfConcat, BagsOfPlaces, BagsOfFold, BagsOfSameMembers, BagsOfInjectiveMap, SortedIsInOrder, SortedIsUnique, SortedTellsBags};
 ghost use Rattle.bags.specs.Words.{FoldOfWords, WordsAreBags, WordsOfRows, WordsOfSameMembers};
 
@@ -40,6 +41,11 @@ pub fn bags_of_flat_map()
 /// Bags through a function of rows that looks at their images alone.
 pub fn bags_of_images()
     ensures { BagsOfImages }
+{}
+
+/// Bags of rows, and of words, made of rows that pass a test by a function that looks at their images alone.
+pub fn bags_of_tested_images()
+    ensures { BagsOfTestedImages }
 {}
 
 /// Bags through appending many lists.
