@@ -17,7 +17,8 @@ use Rattle.query_graph.specs.Build.{Gives, GivesFault, empty_graph, fault_of, gr
 use Rattle.query_graph.specs.Content.{Content}
 use Rattle.query_graph.specs.Faults.{first_fault}
 use Rattle.query_graph.specs.Names.{is_node, node_number}
-use Rattle.query_graph.specs.Statements.{IsFaultOf, IsGraphOf, IsMadeOf, IsNamed, IsNodeOf, IsOutputOf, Passed, is_output, sources_of}
+use Rattle.query_graph.specs.Observers.{sources_of}
+use Rattle.query_graph.specs.Statements.{IsFaultOf, IsGraphOf, IsMadeOf, IsNamed, IsNodeOf, IsOutputOf, Passed, is_output}
 use Rattle.query_graph.specs.Used.{unknown_columns, unknown_name, unknown_node, used_nodes}
 use Rattle.query_graph.proofs.Faultless.{both_none, known_of}
 use Rattle.query_graph.proofs.Lines.{fault_line}

@@ -8,10 +8,9 @@ use Rattle.query_graph.specs.declared.fault.GraphFault.{GraphFault}
 use Rattle.query_graph.specs.declared.fault.GraphFault.TheVariants.{Unknown, Taken, Kind, Shape, Size, NoOutput, Memory}
 use Rattle.query_graph.specs.declared.node.Node.{Node}
 use Rattle.query_graph.specs.declared.node.Output.{Output}
-use Rattle.query_graph.specs.declared.operator.Operator.{Operator}
-use Rattle.query_graph.specs.declared.operator.Operator.TheVariants as operators
 use Rattle.query_graph.specs.Build.{empty_graph, fault_of, name_of, with_statement}
 use Rattle.query_graph.specs.Content.{Content}
+use Rattle.query_graph.specs.Observers.{sources_of}
 use Rattle.query_graph.specs.Parties.{parties_of}
 use Rattle.query_graph.specs.Used.{used_nodes}
 
@@ -27,16 +26,6 @@ is_output_body (bodies.Output o) = true
 
 abbrev pub is_output : Statement → Bool
 is_output s = is_output_body s.body
-
--- the numbers of the nodes that an operator uses, in the order in which its statement writes them
-abbrev pub sources_of : Operator → List ℕ
-sources_of (operators.Relation r) = []
-sources_of (operators.Filter f) = f.source ∷ []
-sources_of (operators.Select s) = s.source ∷ []
-sources_of (operators.Concat c) = c.sources
-sources_of (operators.Join j) = j.left ∷ j.right ∷ []
-sources_of (operators.Group g) = g.source ∷ []
-sources_of (operators.Distinct d) = d.source ∷ []
 
 -- the node with this number has this name
 abbrev pub IsNamed : List Node → ℕ → List ℕ → Type 0
