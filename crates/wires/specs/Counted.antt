@@ -4,10 +4,11 @@ use Rattle.wires.specs.Environment.{Environment}
 use Rattle.wires.specs.Growth.{KeepsWires, capped}
 use Rattle.wires.specs.declared.wire.Wire.{Wire}
 
--- the lanes of each wire, and the AND words spent
+-- the lanes of each wire, and the AND words and AND calls spent
 pub record Counted : Type 0 where
   pub lanes : List ℕ
   pub and_words : ℕ
+  pub and_calls : ℕ
 
 -- no environment is possible
 abbrev pub IsNoAssignment : Counted → Environment → Type 0
@@ -22,7 +23,8 @@ pub record Made (old new : Counted) (lanes : ℕ) (wire : Wire) : Type 0 where
   pub wires : new.lanes ≡ old.lanes ++ lanes ∷ []
   pub number : wire.0 ≡ length old.lanes
   pub count : new.and_words ≡ old.and_words
+  pub calls : new.and_calls ≡ old.and_calls
 
--- so many more AND words
+-- one more AND call, of so many AND words
 abbrev pub charging : Counted → ℕ → Counted
-charging counted lanes = record { lanes = counted.lanes; and_words = capped (counted.and_words + lanes) }
+charging counted lanes = record { lanes = counted.lanes; and_words = capped (counted.and_words + lanes); and_calls = capped (counted.and_calls + 1) }

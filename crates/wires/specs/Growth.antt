@@ -1,5 +1,5 @@
 -- How the state of a `Wires` grows, and what its wires have.
-use Rattle.std.specs.Prelude.{◌≡◌, ℕ, ◌+◌, ◌-◌, ◌^◌, ◌<◌, ◌≤◌, min, List, length, slice_index, All, sum_by}
+use Rattle.std.specs.Prelude.{◌≡◌, ℕ, ◌-◌, ◌^◌, ◌<◌, ◌≤◌, min, List, length, slice_index, All, sum_by}
 use Rattle.lanes.specs.Word.{AreWords}
 use Rattle.wires.specs.Environment.{Environment, words}
 use Rattle.wires.specs.declared.wire.Wire.{Wire}

@@ -1,5 +1,5 @@
 -- What contracts see of a `Clear`: the words of each wire, and a count.
-use Rattle.std.specs.Prelude.{◌≡◌, ℕ, ◌+◌, ◌^◌, ◌<◌, ◌≤◌, List, [], ◌∷◌, ◌++◌, length, map, All}
+use Rattle.std.specs.Prelude.{◌≡◌, ℕ, ◌+◌, ◌^◌, ◌<◌, ◌≤◌, List, [], ◌∷◌, ◌++◌, length, map}
 use Rattle.std.specs.List.{flat_map}
 use Rattle.std.specs.Prelude.{slice_index_or}
 use Rattle.lanes.specs.Word.{AreWords}
@@ -7,10 +7,11 @@ use Rattle.wires.specs.Environment.{Environment}
 use Rattle.wires.specs.Growth.{capped}
 use Rattle.wires.specs.declared.wire.Wire.{Wire}
 
--- the words of each wire, and the AND words spent
+-- the words of each wire, and the AND words and AND calls spent
 pub record Held : Type 0 where
   pub values : List (List ℕ)
   pub and_words : ℕ
+  pub and_calls : ℕ
 
 -- the lanes of each wire
 abbrev pub held_shape : Held → List ℕ
@@ -44,7 +45,8 @@ pub record Pushes (old new : Held) (words : List ℕ) (wire : Wire) : Type 0 whe
   pub values : new.values ≡ old.values ++ words ∷ []
   pub number : wire.0 ≡ length old.values
   pub count : new.and_words ≡ old.and_words
+  pub calls : new.and_calls ≡ old.and_calls
 
--- so many more AND words
+-- one more AND call, of so many AND words
 abbrev pub spending : Held → ℕ → Held
-spending held lanes = record { values = held.values; and_words = capped (held.and_words + lanes) }
+spending held lanes = record { values = held.values; and_words = capped (held.and_words + lanes); and_calls = capped (held.and_calls + 1) }

@@ -1,11 +1,10 @@
 -- The laws of growth at a `Clear`, and what one more wire does to it.
-use Rattle.std.proofs.Common.{◌≡◌, ℕ, ◌+◌, ◌<◌, ◌≤◌, List, [], ◌∷◌, ◌++◌, length, map, get_or, refl, sym, ap, ◌∙◌, subst, arith, length-append}
+use Rattle.std.proofs.Common.{◌≡◌, ℕ, ◌+◌, ◌<◌, List, [], ◌∷◌, ◌++◌, length, get_or, refl, sym, ap, ◌∙◌, subst, arith, length-append}
 use Rattle.std.proofs.Math.ListN.{get_or-map}
 use Rattle.std.proofs.Math.Seq.{get_or-append_seam}
 use Rattle.std.proofs.lemmas.List.{get_or_append_left, length-map}
 use Rattle.std.proofs.lemmas.List.Concat.{flat_map-cons}
 use Rattle.std.proofs.lemmas.List.Elements.{All-head, All-tail}
-use Rattle.lanes.specs.Word.{AreWords}
 use Rattle.wires.specs.Environment.{Environment, all_words, words}
 use Rattle.wires.specs.Growth.{AreMade, Carries, Grows, HasLanes, IsMade, KeepsWires, lanes_of}
 use Rattle.wires.specs.Held.{Extends, Held, IsAssignment, Pushes, held_shape, spending, value_of, values_of}

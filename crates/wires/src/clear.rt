@@ -18,6 +18,7 @@ use std::marker::Model;
 pub struct Clear {
     values: Vec<Vec<u64>>,
     and_words: u64,
+    and_calls: u64,
 }
 
 impl Model for Clear {
@@ -37,11 +38,12 @@ impl Clear {
 
     /// No wire yet.
     pub fn new(alloc: Global) -> Clear
-        ensures { result ≡ record { values = []; and_words = 0 } }
+        ensures { result ≡ record { values = []; and_words = 0; and_calls = 0 } }
     {
         Clear {
             values: Vec::new(alloc),
             and_words: 0,
+            and_calls: 0,
         }
     }
 
@@ -68,11 +70,12 @@ impl Clear {
         Ok(wire)
     }
 
-    // So many more AND words.
+    // One more AND call, of so many AND words.
     fn spend(&mut self, lanes: usize)
         ensures { self.new ≡ spending self.old lanes }
     {
         self.and_words = self.and_words.saturating_add(lanes as u64);
+        self.and_calls = self.and_calls.saturating_add(1);
     }
 
     fn allocator(&self) -> Global {
@@ -113,6 +116,8 @@ impl Wires for Clear {
     ghost shape = { held_shape };
 
     ghost ands = { λ held. held.and_words };
+
+    ghost and_calls = { λ held. held.and_calls };
 
     ghost possible = { IsAssignment };
 

@@ -13,9 +13,9 @@ use std::alloc::AllocError;
 
 /// Words in lanes, made one wire after the other.
 ///
-/// Each call makes one wire, or answers want of memory; either way the state has grown from what it was. A
-/// `Wires` holds at most 2^32 - 1 wires: a growth past that finds no memory. In the manner of a circuit
-/// builder over an abstract algebra. Own.
+/// Each call makes one wire and no more, or answers want of memory and makes none; either way the state has grown
+/// from what it was. A `Wires` holds at most 2^32 - 1 wires: a growth past that finds no memory. In the manner of
+/// a circuit builder over an abstract algebra. Own.
 pub trait Wires {
     ghost use Rattle.wires.specs.declared.wire.Wire.{Wire};
 
@@ -23,6 +23,8 @@ pub trait Wires {
     ghost shape: { Self → List ℕ };
     // The AND words spent so far, which stand still at 2^64 - 1.
     ghost ands: { Self → ℕ };
+    // The calls of `and` so far, which stand still at 2^64 - 1.
+    ghost and_calls: { Self → ℕ };
     // The environments that are possible in this state.
     ghost possible: { Self → Environment → Type 0 };
     // The second state has grown from the first.
@@ -39,7 +41,9 @@ pub trait Wires {
         requires { length words.now < 2 ^ 32 }
         ensures grows { Grows grown possible shape self.old self.new }
         ensures ok { IfOk result (λ new. Carries (possible self.new) (shape self.new) new (length words.now) (λ _. words.now)) }
-        ensures count { ands self.new ≡ ands self.old };
+        ensures count { ands self.new ≡ ands self.old }
+        ensures calls { and_calls self.new ≡ and_calls self.old }
+        ensures wires { length (shape self.new) ≡ length (shape self.old) + (if is_ok result then 1 else 0) };
 
     /// The xor of two wires, lane by lane.
     fn xor(&mut self, left: Wire, right: Wire) -> Result<Wire, AllocError>
@@ -49,9 +53,11 @@ pub trait Wires {
         ensures grows { Grows grown possible shape self.old self.new }
         ensures ok { IfOk result (λ new. Carries (possible self.new) (shape self.new) new (lanes_of (shape self.old) left)
             (λ v. lanewise bit_xor (words v left) (words v right))) }
-        ensures count { ands self.new ≡ ands self.old };
+        ensures count { ands self.new ≡ ands self.old }
+        ensures calls { and_calls self.new ≡ and_calls self.old }
+        ensures wires { length (shape self.new) ≡ length (shape self.old) + (if is_ok result then 1 else 0) };
 
-    /// The and of two wires, lane by lane; it costs an AND word a lane.
+    /// The and of two wires, lane by lane; it costs an AND word a lane, and is one AND call.
     fn and(&mut self, left: Wire, right: Wire) -> Result<Wire, AllocError>
         requires left { IsMade (shape self.old) left }
         requires right { IsMade (shape self.old) right }
@@ -59,7 +65,9 @@ pub trait Wires {
         ensures grows { Grows grown possible shape self.old self.new }
         ensures ok { IfOk result (λ new. Carries (possible self.new) (shape self.new) new (lanes_of (shape self.old) left)
             (λ v. lanewise bit_and (words v left) (words v right))) }
-        ensures count { ands self.new ≡ (if is_ok result then capped (ands self.old + lanes_of (shape self.old) left) else ands self.old) };
+        ensures count { ands self.new ≡ (if is_ok result then capped (ands self.old + lanes_of (shape self.old) left) else ands self.old) }
+        ensures calls { and_calls self.new ≡ (if is_ok result then capped (and_calls self.old + 1) else and_calls self.old) }
+        ensures wires { length (shape self.new) ≡ length (shape self.old) + (if is_ok result then 1 else 0) };
 
     /// Each bit of a wire turned.
     fn not(&mut self, wire: Wire) -> Result<Wire, AllocError>
@@ -67,7 +75,9 @@ pub trait Wires {
         ensures grows { Grows grown possible shape self.old self.new }
         ensures ok { IfOk result (λ new. Carries (possible self.new) (shape self.new) new (lanes_of (shape self.old) wire)
             (λ v. lanewise1 word_not (words v wire))) }
-        ensures count { ands self.new ≡ ands self.old };
+        ensures count { ands self.new ≡ ands self.old }
+        ensures calls { and_calls self.new ≡ and_calls self.old }
+        ensures wires { length (shape self.new) ≡ length (shape self.old) + (if is_ok result then 1 else 0) };
 
     /// Each word of a wire shifted to the left, towards the high bits.
     fn left(&mut self, wire: Wire, by: u32) -> Result<Wire, AllocError>
@@ -76,7 +86,9 @@ pub trait Wires {
         ensures grows { Grows grown possible shape self.old self.new }
         ensures ok { IfOk result (λ new. Carries (possible self.new) (shape self.new) new (lanes_of (shape self.old) wire)
             (λ v. lanewise1 (shifted_left by) (words v wire))) }
-        ensures count { ands self.new ≡ ands self.old };
+        ensures count { ands self.new ≡ ands self.old }
+        ensures calls { and_calls self.new ≡ and_calls self.old }
+        ensures wires { length (shape self.new) ≡ length (shape self.old) + (if is_ok result then 1 else 0) };
 
     /// Each word of a wire shifted to the right, towards the low bits.
     fn right(&mut self, wire: Wire, by: u32) -> Result<Wire, AllocError>
@@ -85,7 +97,9 @@ pub trait Wires {
         ensures grows { Grows grown possible shape self.old self.new }
         ensures ok { IfOk result (λ new. Carries (possible self.new) (shape self.new) new (lanes_of (shape self.old) wire)
             (λ v. lanewise1 (shifted_right by) (words v wire))) }
-        ensures count { ands self.new ≡ ands self.old };
+        ensures count { ands self.new ≡ ands self.old }
+        ensures calls { and_calls self.new ≡ and_calls self.old }
+        ensures wires { length (shape self.new) ≡ length (shape self.old) + (if is_ok result then 1 else 0) };
 
     /// The and of each word of a wire with one word that is known.
     fn mask(&mut self, wire: Wire, word: u64) -> Result<Wire, AllocError>
@@ -93,7 +107,9 @@ pub trait Wires {
         ensures grows { Grows grown possible shape self.old self.new }
         ensures ok { IfOk result (λ new. Carries (possible self.new) (shape self.new) new (lanes_of (shape self.old) wire)
             (λ v. lanewise1 (λ x. bit_and x word) (words v wire))) }
-        ensures count { ands self.new ≡ ands self.old };
+        ensures count { ands self.new ≡ ands self.old }
+        ensures calls { and_calls self.new ≡ and_calls self.old }
+        ensures wires { length (shape self.new) ≡ length (shape self.old) + (if is_ok result then 1 else 0) };
 
     /// Each word of a wire filled with its bit 0.
     fn spread(&mut self, wire: Wire) -> Result<Wire, AllocError>
@@ -101,7 +117,9 @@ pub trait Wires {
         ensures grows { Grows grown possible shape self.old self.new }
         ensures ok { IfOk result (λ new. Carries (possible self.new) (shape self.new) new (lanes_of (shape self.old) wire)
             (λ v. lanewise1 spread_word (words v wire))) }
-        ensures count { ands self.new ≡ ands self.old };
+        ensures count { ands self.new ≡ ands self.old }
+        ensures calls { and_calls self.new ≡ and_calls self.old }
+        ensures wires { length (shape self.new) ≡ length (shape self.old) + (if is_ok result then 1 else 0) };
 
     /// The words at these places of the sources, which lie one after the other.
     fn gather(&mut self, sources: &[Wire], places: &[u32]) -> Result<Wire, AllocError>
@@ -111,7 +129,9 @@ pub trait Wires {
         ensures grows { Grows grown possible shape self.old self.new }
         ensures ok { IfOk result (λ new. Carries (possible self.new) (shape self.new) new (length places.now)
             (λ v. picked places.now (all_words v sources.now))) }
-        ensures count { ands self.new ≡ ands self.old };
+        ensures count { ands self.new ≡ ands self.old }
+        ensures calls { and_calls self.new ≡ and_calls self.old }
+        ensures wires { length (shape self.new) ≡ length (shape self.old) + (if is_ok result then 1 else 0) };
 
     // Each state has grown from itself.
     ghost grown_refl: { (s : Self) → grown s s };

@@ -8,12 +8,13 @@ use crate::{Wire, Wires};
 use std::alloc::{AllocError, Global};
 use std::marker::Model;
 
-/// Wires of which only the lanes and the count of AND words are kept: no environment is possible, so
-/// nothing is told of values.
+/// Wires of which only the lanes and the counts of AND words and AND calls are kept: no environment is possible,
+/// so nothing is told of values.
 #[derive(Debug, Drop)]
 pub struct Tally {
     lanes: Vec<u32>,
     and_words: u64,
+    and_calls: u64,
 }
 
 impl Model for Tally {
@@ -31,11 +32,12 @@ impl Tally {
 
     /// No wire yet.
     pub fn new(alloc: Global) -> Tally
-        ensures { result ≡ record { lanes = []; and_words = 0 } }
+        ensures { result ≡ record { lanes = []; and_words = 0; and_calls = 0 } }
     {
         Tally {
             lanes: Vec::new(alloc),
             and_words: 0,
+            and_calls: 0,
         }
     }
 
@@ -44,6 +46,13 @@ impl Tally {
         ensures { result ≡ self.now.and_words }
     {
         self.and_words
+    }
+
+    /// The AND calls so far, which stand still at 2^64 - 1.
+    pub fn and_calls(&self) -> u64
+        ensures { result ≡ self.now.and_calls }
+    {
+        self.and_calls
     }
 
     // A new wire of so many lanes.
@@ -67,11 +76,12 @@ impl Tally {
         self.lanes[wire.0 as usize]
     }
 
-    // So many more AND words.
+    // One more AND call, of so many AND words.
     fn charge(&mut self, lanes: u32)
         ensures { self.new ≡ charging self.old lanes }
     {
         self.and_words = self.and_words.saturating_add(u64::from(lanes));
+        self.and_calls = self.and_calls.saturating_add(1);
     }
 
     // A wire with the lanes of another one.
@@ -93,6 +103,8 @@ impl Wires for Tally {
     ghost shape = { λ counted. counted.lanes };
 
     ghost ands = { λ counted. counted.and_words };
+
+    ghost and_calls = { λ counted. counted.and_calls };
 
     ghost possible = { IsNoAssignment };
 

@@ -1,4 +1,4 @@
-use Rattle.std.proofs.Common.{ℕ, length, get_or, refl, sym, ap, arith}
+use Rattle.std.proofs.Common.{length, get_or, refl, sym, ap, arith}
 use Rattle.wires.specs.declared.wire.Wire.{Wire}
 use Rattle.wires.proofs.Sources.{place_moved}
 use Rattle.wires.proofs.clear.Clear.word_at.Goals as goal
