@@ -117,7 +117,7 @@ upper_word op half p xs enough behind =
     ∙ ap (λ k. get_or xs k 0) at
 
 -- a lane of a block below the last
-lane_within : (width j i blocks : ℕ) → j < blocks → i < width → j * width + i < blocks * width
+pub lane_within : (width j i blocks : ℕ) → j < blocks → i < width → j * width + i < blocks * width
 lane_within width j i blocks below inside =
     let all : suc j * width ≤ blocks * width = mul-le-mul_right width (omega arith) in
     omega (arith, all)
@@ -168,7 +168,7 @@ lane_stays op h e width i left xs enough inside parity = ⊎_elim even odd parit
         ∙ ap (λ n. words_folded op (map b (range_with_len 0 n))) (sym is)
 
 -- two lists of folds of lanes that agree lane by lane
-same_lanes : (f g : ℕ → ℕ) (n : ℕ) → ((i : ℕ) → i < n → f i ≡ g i) → map f (range_with_len 0 n) ≡ map g (range_with_len 0 n)
+pub same_lanes : (f g : ℕ → ℕ) (n : ℕ) → ((i : ℕ) → i < n → f i ≡ g i) → map f (range_with_len 0 n) ≡ map g (range_with_len 0 n)
 same_lanes f g n same =
     fill_by_all g (map f (range_with_len 0 n)) n 0 (length-map-range_with_len f 0 n)
     (λ i inside. get_or-map-range_with_len f 0 n i i 0 inside (omega arith) ∙ same i inside)

@@ -4,9 +4,13 @@ use Rattle.std.proofs.Math.Nat.{mul-add, mul-le-mul_left, mul-le-mul_right, mul-
 use Rattle.wires.specs.Environment.{Environment, words}
 use Rattle.wires.specs.Growth.{Carries, Grows, IsMade, lanes_of}
 use Rattle.wires.specs.declared.wire.Wire.{Wire}
-use Rattle.circuits.specs.Blocks.{blocks_folded, halves_folded}
+use Rattle.lanes.specs.CarrySave.{CarrySaveKeepsSum}
+use Rattle.lanes.specs.Sums.{sum_word}
+use Rattle.circuits.specs.Blocks.{blocks_folded, halves_folded, thirds_saved}
 use Rattle.circuits.proofs.BlockLaws.{IsCommutativeSemigroup, halves_stay, one_block}
+use Rattle.circuits.proofs.BlockLevels.{thirds_spent}
 use Rattle.circuits.proofs.Levels.{grows_still, grows_then}
+use Rattle.circuits.proofs.ThirdLaws.{thirds_stay}
 
 -- so many blocks are left, whose fold is that of all blocks; so many AND words a block were spent on the others
 pub record FoldingBlocks {S : Type 0} (grown : S → S → Type 0) (possible : S → Environment → Type 0) (shape : S → List ℕ) (ands : S → ℕ)
@@ -102,3 +106,36 @@ pub level_cost : (before now after cost width count left half : ℕ) → now + c
     → half < left → 0 < count → after ≤ before + cost * width * (count - 1)
 level_cost before now after cost width count left half spent level fewer any =
     folding_cost before after (cost * width) count (left - half) (omega (arith, spent, level, level_spent cost half width left (omega arith))) (omega arith) any
+
+-- a third of the blocks that are left is there three times
+pub thirds_within : (left width : ℕ) → 3 * (left / 3 * width) ≤ left * width
+thirds_within left width =
+    let most : (left / 3 + left / 3 + left / 3) * width ≤ left * width = mul-le-mul_right width (omega arith) in
+    omega (arith, most)
+
+-- after one level of thirds
+pub thirds_go_on : {S : Type 0} (grown : S → S → Type 0) (possible : S → Environment → Type 0) (shape : S → List ℕ) (ands : S → ℕ)
+    (first now next : S) (blocks folded new : Wire) (count left third width : ℕ)
+    → CarrySaveKeepsSum → ((v : Environment) → possible now v → length (words v folded) ≡ lanes_of (shape now) folded)
+    → FoldingBlocks grown possible shape ands first now sum_word blocks folded count left width width
+    → Grows grown possible shape now next
+    → Carries (possible next) (shape next) new (lanes_of (shape now) folded - third * width) (λ v. thirds_saved (third * width) (words v folded))
+    → ands next ≤ ands now + third * width → third ≡ left / 3 → 2 < left
+    → FoldingBlocks grown possible shape ands first next sum_word blocks new count (left - third) width width
+thirds_go_on grown possible shape ands first now next blocks folded new count left third width law long before grows made spent is some =
+    let within : third ≤ left = omega arith in
+    record {
+      grows = grows_then grown possible shape first now next before.grows grows;
+      made = made.made;
+      lanes =
+          let all : left ≡ left - third + third = omega arith in
+          let split : (left - third + third) * width ≡ (left - third) * width + third * width = omega arith in
+          omega (arith, made.lanes, before.lanes, split, ap (λ k. k * width) all);
+      value = λ v possible_next.
+          let possible_now = grows.within v possible_next in
+          ap (blocks_folded sum_word (left - third) width) (made.value v possible_next)
+          ∙ thirds_stay law left third width (words v folded) (long v possible_now ∙ before.lanes) is some
+          ∙ before.value v possible_now;
+      some = omega arith;
+      spent = omega (arith, before.spent, spent, thirds_spent width left third within);
+    }

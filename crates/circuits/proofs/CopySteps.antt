@@ -2,7 +2,7 @@
 use Rattle.std.proofs.Common.{◌≡◌, ℕ, suc, ◌+◌, ◌*◌, ◌<◌, ◌≤◌, ⊎_elim, List, [], ◌∷◌, ◌++◌, length, refl, sym, ap, ◌∙◌, subst, arith, length-append}
 use Rattle.std.specs.Prelude.{Some, slice_get, slice_index_or}
 use Rattle.std.proofs.lemmas.Option.{slice_get-get_or}
-use Rattle.std.proofs.Math.Nat.{add-mul, mul-le-mul_left, mul-le-mul_right, mul_assoc, one-mul}
+use Rattle.std.proofs.Math.Nat.{add-mul, mul-le-mul_left, mul-le-mul_right, mul_assoc, mul_comm, one-mul}
 use Rattle.wires.specs.Environment.{Environment, words}
 use Rattle.wires.specs.Growth.{AreMade, Carries, Grows}
 use Rattle.wires.specs.declared.wire.Wire.{Wire}
@@ -78,3 +78,20 @@ pub copies_made : (possible : Environment → Type 0) (shape : List ℕ) (joined
 copies_made possible shape joined columns copies n h long k wire inside =
     (h.each k (slice_index_or columns k wire) (slice_index_or copies k wire)
     (slice_get-get_or columns k wire (omega arith)) (slice_get-get_or copies k wire inside)).made
+
+-- so much for each column, with one column more, and below the last one
+pub one_more_column : (at cost : ℕ) → (at + 1) * cost ≡ at * cost + cost
+one_more_column at cost = omega arith
+
+pub columns_within : (at last cost : ℕ) → at < last → at * cost + cost ≤ last * cost
+columns_within at last cost below =
+    let most : (at + 1) * cost ≤ last * cost = mul-le-mul_right cost (omega arith) in
+    omega (arith, most, one_more_column at cost)
+
+-- the AND calls and the wires of the flags and of copies
+pub copies_within : (before mid after base each cost columns l l' levels : ℕ) → mid ≤ before + (base + each * levels) → after ≤ mid + columns * (cost * l') → l' ≡ l → l ≤ levels
+    → after ≤ before + (base + (cost * columns + each) * levels)
+copies_within before mid after base each cost columns l l' levels flags scans same few =
+    let most : cost * columns * l' ≤ cost * columns * levels = mul-le-mul_left (cost * columns) (omega (arith, same)) in
+    let turned : columns * (cost * l') ≡ cost * columns * l' = sym (mul_assoc columns cost l') ∙ ap (λ k. k * l') (mul_comm columns cost) in
+    omega (arith, flags, scans, most, turned, add-mul (cost * columns) each levels)

@@ -2,7 +2,9 @@
 use Rattle.std.proofs.Common.{◌≡◌, ℕ, ◌%◌, ◌^◌, ◌-◌, ◌<◌, ⊎_elim, List, [], ◌∷◌, refl, ap, ◌∙◌, arith, true, false, lit<}
 use Rattle.std.specs.Prelude.{bit_and, nat_eq}
 use Rattle.std.proofs.lemmas.Bool.Decides.{nat_tests}
-use Rattle.std.proofs.lemmas.Nat.{xor_lt}
+use Rattle.std.proofs.lemmas.Nat.{or_comm, xor_lt}
+use Rattle.std.proofs.lemmas.Nat.Bits.{bit_at_or, same_from_bits}
+use Rattle.std.specs.Int.Bits.{or_zero_l}
 use Rattle.lanes.specs.Lanes.{lanewise}
 use Rattle.lanes.specs.Shifts.{spread_word}
 use Rattle.lanes.specs.Sums.{chosen_word}
@@ -11,7 +13,7 @@ use Rattle.lanes.proofs.Carries.{bit_cases}
 use Rattle.lanes.proofs.WordChoice.{spread_off, spread_on}
 use Rattle.lanes.proofs.WordLemmas.{not_not}
 use Rattle.circuits.specs.declared.folds.Fold.{Fold}
-use Rattle.circuits.specs.declared.folds.Fold.TheVariants.{Sum, Least, Greatest}
+use Rattle.circuits.specs.declared.folds.Fold.TheVariants.{Sum, Least, Greatest, Any}
 use Rattle.circuits.specs.Folds.{combined_word, neutral_word}
 use Rattle.circuits.specs.Values.{cleared_lanes, raised_lanes}
 use Rattle.circuits.proofs.LaneValues.{head_word, tail_words}
@@ -53,13 +55,16 @@ pub combined_assoc : (fold : Fold) (x y z : ℕ) → combined_word fold (combine
 combined_assoc Sum x y z = omega arith
 combined_assoc Least x y z = omega arith
 combined_assoc Greatest x y z = omega arith
+combined_assoc Any x y z = same_from_bits _ _ (λ i. simp (bit_at_or) (omega arith))
 
 pub combined_comm : (fold : Fold) (x y : ℕ) → combined_word fold x y ≡ combined_word fold y x
 combined_comm Sum x y = omega arith
 combined_comm Least x y = omega arith
 combined_comm Greatest x y = omega arith
+combined_comm Any x y = or_comm x y
 
 pub combined_neutral : (fold : Fold) (x : ℕ) → x < 2 ^ 64 → combined_word fold (neutral_word fold) x ≡ x
 combined_neutral Sum x below = omega arith
 combined_neutral Least x below = omega arith
 combined_neutral Greatest x below = omega arith
+combined_neutral Any x below = or_zero_l x

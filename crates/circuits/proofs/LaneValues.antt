@@ -1,19 +1,22 @@
 -- The values of circuits, from words to lanes.
-use Rattle.std.proofs.Common.{◌≡◌, ℕ, suc, ◌^◌, ◌<◌, ◌≤◌, ⊎_elim, true, false, min, max, List, [], ◌∷◌, refl, ap, ◌∙◌, arith}
-use Rattle.std.specs.Prelude.{bit_and, bit_xor, nat_lt}
+use Rattle.std.proofs.Common.{◌≡◌, ℕ, suc, ◌+◌, ◌%◌, ◌^◌, ◌<◌, ◌≤◌, ⊎_elim, true, false, min, max, List, [], ◌∷◌, refl, ap, ◌∙◌, arith}
+use Rattle.std.specs.Prelude.{bit_and, bit_or, bit_xor, nat_lt}
 use Rattle.std.proofs.lemmas.Bool.{cases_lt}
+use Rattle.std.proofs.lemmas.Nat.Bits.{bit_at_and, bit_at_or, bit_at_xor, bit_at-lt, same_from_bits}
+use Rattle.std.specs.Int.{bit_at}
 use Rattle.std.proofs.lemmas.Bool.Decides.{nat_tests}
-use Rattle.lanes.specs.Carry.{carries_word, span_after}
+use Rattle.lanes.specs.Prefix.{carries_word, half_products, half_tops, joined_generate, joined_propagate, lower_places, span_after, spread_down, top_places, upper_places, upper_twice}
 use Rattle.lanes.specs.Fold.{folded_word}
 use Rattle.lanes.specs.Lanes.{lanewise, lanewise1}
-use Rattle.lanes.specs.Product.{product_after, product_term}
+use Rattle.lanes.specs.CarrySave.{saved_terms}
+use Rattle.lanes.specs.Product.{product_term}
 use Rattle.lanes.specs.Shifts.{shifted_left, shifted_right}
 use Rattle.lanes.specs.Sums.{chosen_word, difference_word, equal_word, less_word, product_word, sum_word}
 use Rattle.lanes.specs.Word.{AreWords, word_not}
 use Rattle.lanes.proofs.WordChoice.{choice_by_mask, equality_by_fold}
-use Rattle.lanes.proofs.WordProduct.{product_of_terms}
+use Rattle.lanes.proofs.CarrySave.{product_of_saved}
 use Rattle.lanes.proofs.WordSums.{difference_by_sum, less_by_carry, sum_of_carries}
-use Rattle.circuits.specs.Values.{added_lanes, chosen_lanes, difference_lanes, fold_lanes, less_lanes, masked_choice, shared_fold, sum_lanes, term_lanes, wider_generates, wider_propagates}
+use Rattle.circuits.specs.Values.{chosen_lanes, difference_lanes, fold_lanes, less_lanes, masked_choice, generates_lanes, moved_carries, nearer_lanes, or_lanes, propagates_lanes, saved_carries, saved_sums, shared_fold, sum_lanes, term_lanes, tops_lanes, twice_lanes}
 
 -- the first word of a list of words, and the rest
 pub head_word : (x : ℕ) (xs : List ℕ) → AreWords (x ∷ xs) → x < 2 ^ 64
@@ -90,27 +93,44 @@ fold_step level xs =
     lanewise_own bit_and (shifted_right (2 ^ level)) (lanewise1 (folded_word level) xs)
     ∙ lanewise1_twice (λ x. bit_and x (shifted_right (2 ^ level) x)) (folded_word level) xs
 
--- one step of a prefix
-pub generates_step : (level : ℕ) (xs ys : List ℕ)
-    → wider_generates (2 ^ level) (lanewise (λ x y. (span_after level x y).generate) xs ys) (lanewise (λ x y. (span_after level x y).propagate) xs ys)
-    ≡ lanewise (λ x y. (span_after (suc level) x y).generate) xs ys
-unfolding wider_generates span_after
-generates_step level xs ys =
-    let g = λ (x : ℕ) (y : ℕ). (span_after level x y).generate in
-    let p = λ (x : ℕ) (y : ℕ). (span_after level x y).propagate in
-    let up = λ (x : ℕ) (y : ℕ). shifted_left (2 ^ level) (span_after level x y).generate in
-    ap (λ zs. lanewise bit_xor (lanewise g xs ys) (lanewise bit_and (lanewise p xs ys) zs)) (lanewise1_after (shifted_left (2 ^ level)) g xs ys)
-    ∙ ap (lanewise bit_xor (lanewise g xs ys)) (lanewise_after bit_and p up xs ys)
-    ∙ lanewise_after bit_xor g (λ x y. bit_and (p x y) (up x y)) xs ys
+-- the factors of a level's products, and the products
+pub spread_begins : (xs : List ℕ) → xs ≡ lanewise1 (spread_down 0) xs
+unfolding spread_down
+spread_begins [] = refl
+spread_begins (x ∷ xs) = ap (λ rest. x ∷ rest) (spread_begins xs)
 
-pub propagates_step : (level : ℕ) (xs ys : List ℕ)
-    → wider_propagates (2 ^ level) (lanewise (λ x y. (span_after level x y).propagate) xs ys) ≡ lanewise (λ x y. (span_after (suc level) x y).propagate) xs ys
-unfolding wider_propagates span_after
-propagates_step level xs ys =
-    let p = λ (x : ℕ) (y : ℕ). (span_after level x y).propagate in
-    let up = λ (x : ℕ) (y : ℕ). shifted_left (2 ^ level) (span_after level x y).propagate in
-    ap (lanewise bit_and (lanewise p xs ys)) (lanewise1_after (shifted_left (2 ^ level)) p xs ys)
-    ∙ lanewise_after bit_and p up xs ys
+pub spread_step : (steps : ℕ) (xs : List ℕ) → nearer_lanes (2 ^ steps) (lanewise1 (spread_down steps) xs) ≡ lanewise1 (spread_down (suc steps)) xs
+unfolding nearer_lanes spread_down
+spread_step steps xs =
+    lanewise_own bit_xor (shifted_right (2 ^ steps)) (lanewise1 (spread_down steps) xs)
+    ∙ lanewise1_twice (λ x. bit_xor x (shifted_right (2 ^ steps) x)) (spread_down steps) xs
+
+pub products_are : (level : ℕ) (gs ps : List ℕ)
+    → lanewise bit_and (twice_lanes (2 ^ level) (upper_places level) ps) (lanewise1 (spread_down level) (tops_lanes (2 ^ level) (top_places level) gs ps))
+    ≡ lanewise (half_products level) gs ps
+unfolding twice_lanes tops_lanes half_products upper_twice half_tops
+products_are level [] ps = lanewise_nil bit_and _
+products_are level (g ∷ gs) [] = refl
+products_are level (g ∷ gs) (p ∷ ps) = ap (λ rest. half_products level g p ∷ rest) (products_are level gs ps)
+
+-- what a level makes of its products
+pub generates_join : (level : ℕ) (xs ys : List ℕ)
+    → generates_lanes (2 ^ level) (lower_places level) (lanewise (λ x y. (span_after level x y).generate) xs ys)
+    (lanewise (half_products level) (lanewise (λ x y. (span_after level x y).generate) xs ys) (lanewise (λ x y. (span_after level x y).propagate) xs ys))
+    ≡ lanewise (λ x y. (span_after (suc level) x y).generate) xs ys
+unfolding generates_lanes span_after joined_generate
+generates_join level [] ys = refl
+generates_join level (x ∷ xs) [] = refl
+generates_join level (x ∷ xs) (y ∷ ys) = ap (λ rest. (span_after (suc level) x y).generate ∷ rest) (generates_join level xs ys)
+
+pub propagates_join : (level : ℕ) (xs ys : List ℕ)
+    → propagates_lanes (lower_places level) (upper_places level) (lanewise (λ x y. (span_after level x y).propagate) xs ys)
+    (lanewise (half_products level) (lanewise (λ x y. (span_after level x y).generate) xs ys) (lanewise (λ x y. (span_after level x y).propagate) xs ys))
+    ≡ lanewise (λ x y. (span_after (suc level) x y).propagate) xs ys
+unfolding propagates_lanes span_after joined_propagate
+propagates_join level [] ys = refl
+propagates_join level (x ∷ xs) [] = refl
+propagates_join level (x ∷ xs) (y ∷ ys) = ap (λ rest. (span_after (suc level) x y).propagate ∷ rest) (propagates_join level xs ys)
 
 -- sums, differences, comparisons
 pub sum_is : (xs ys : List ℕ) → AreWords xs → AreWords ys → sum_lanes xs ys ≡ lanewise sum_word xs ys
@@ -157,22 +177,48 @@ greatest_is [] ys = refl
 greatest_is (x ∷ xs) [] = refl
 greatest_is (x ∷ xs) (y ∷ ys) = ap (λ h. h ∷ chosen_lanes (lanewise less_word xs ys) ys xs) (greater x y) ∙ ap (λ rest. max x y ∷ rest) (greatest_is xs ys)
 
+-- an or as a xor
+or_by_xor : (x y : ℕ) → bit_xor (bit_xor x y) (bit_and x y) ≡ bit_or x y
+or_by_xor x y = same_from_bits _ _ (λ i. simp (bit_at_and, bit_at_or, bit_at_xor) (either (bit_at x i) (bit_at y i) (bit_at-lt x i) (bit_at-lt y i)))
+  where
+    either : (a b : ℕ) → a < 2 → b < 2 → ((a + b) % 2 + min a b) % 2 ≡ max a b
+    either a b first second = omega arith
+
+pub or_is : (xs ys : List ℕ) → or_lanes xs ys ≡ lanewise bit_or xs ys
+unfolding or_lanes
+or_is [] ys = refl
+or_is (x ∷ xs) [] = refl
+or_is (x ∷ xs) (y ∷ ys) = ap (λ h. h ∷ or_lanes xs ys) (or_by_xor x y) ∙ ap (λ rest. bit_or x y ∷ rest) (or_is xs ys)
+
 -- products, term by term
-pub term_is : (i : ℕ) (xs ys : List ℕ) → term_lanes i xs ys ≡ lanewise (product_term i) xs ys
+pub terms_begin : (place : ℕ) (xs ys : List ℕ) → term_lanes place xs ys ≡ lanewise (product_term place) xs ys
 unfolding term_lanes
-term_is i [] ys = lanewise_nil bit_and _
-term_is i (x ∷ xs) [] = refl
-term_is i (x ∷ xs) (y ∷ ys) = ap (λ rest. product_term i x y ∷ rest) (term_is i xs ys)
+terms_begin place [] ys = lanewise_nil bit_and _
+terms_begin place (x ∷ xs) [] = refl
+terms_begin place (x ∷ xs) (y ∷ ys) = ap (λ rest. product_term place x y ∷ rest) (terms_begin place xs ys)
 
-pub product_step : (i : ℕ) (xs ys : List ℕ) → added_lanes (suc i) (lanewise (product_after i) xs ys) xs ys ≡ lanewise (product_after (suc i)) xs ys
-unfolding added_lanes product_after
-product_step i xs ys =
-    ap (lanewise sum_word (lanewise (product_after i) xs ys)) (term_is (suc i) xs ys)
-    ∙ lanewise_after sum_word (product_after i) (product_term (suc i)) xs ys
+pub saved_begins : (xs ys : List ℕ) → (term_lanes 0 xs ys ≡ lanewise (λ x y. (saved_terms 0 x y).sum) xs ys) × (term_lanes 1 xs ys ≡ lanewise (λ x y. (saved_terms 0 x y).carry) xs ys)
+unfolding saved_terms
+saved_begins xs ys = (terms_begin 0 xs ys, terms_begin 1 xs ys)
 
-pub product_begins : (xs ys : List ℕ) → term_lanes 0 xs ys ≡ lanewise (product_after 0) xs ys
-unfolding product_after
-product_begins xs ys = term_is 0 xs ys
+pub sums_step : (more : ℕ) (xs ys : List ℕ)
+    → saved_sums (lanewise (λ x y. (saved_terms more x y).sum) xs ys) (lanewise (λ x y. (saved_terms more x y).carry) xs ys) (term_lanes (suc (suc more)) xs ys)
+    ≡ lanewise (λ x y. (saved_terms (suc more) x y).sum) xs ys
+unfolding saved_sums saved_terms term_lanes
+sums_step more [] ys = refl
+sums_step more (x ∷ xs) [] = refl
+sums_step more (x ∷ xs) (y ∷ ys) = ap (λ rest. (saved_terms (suc more) x y).sum ∷ rest) (sums_step more xs ys)
 
-pub product_is : (xs ys : List ℕ) → AreWords xs → AreWords ys → lanewise (product_after 63) xs ys ≡ lanewise product_word xs ys
-product_is xs ys first second = same_lanes (product_after 63) product_word (λ x y above below. product_of_terms x y below) xs ys first second
+pub carries_step : (more : ℕ) (xs ys : List ℕ)
+    → saved_carries (lanewise (λ x y. (saved_terms more x y).sum) xs ys) (lanewise (λ x y. (saved_terms more x y).carry) xs ys) (term_lanes (suc (suc more)) xs ys)
+    ≡ lanewise (λ x y. (saved_terms (suc more) x y).carry) xs ys
+unfolding saved_carries moved_carries saved_terms term_lanes
+carries_step more [] ys = refl
+carries_step more (x ∷ xs) [] = refl
+carries_step more (x ∷ xs) (y ∷ ys) = ap (λ rest. (saved_terms (suc more) x y).carry ∷ rest) (carries_step more xs ys)
+
+pub product_is : (xs ys : List ℕ) → AreWords xs → AreWords ys
+    → lanewise sum_word (lanewise (λ x y. (saved_terms 62 x y).sum) xs ys) (lanewise (λ x y. (saved_terms 62 x y).carry) xs ys) ≡ lanewise product_word xs ys
+product_is xs ys first second =
+    lanewise_after sum_word (λ x y. (saved_terms 62 x y).sum) (λ x y. (saved_terms 62 x y).carry) xs ys
+    ∙ same_lanes _ product_word (λ x y above below. product_of_saved x y below) xs ys first second

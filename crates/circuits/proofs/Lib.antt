@@ -1,10 +1,14 @@
 pub mod LaneValues
 pub mod Restated
 pub mod Levels
+pub mod Spans
+pub mod Savings
 pub mod FoldValues
 pub mod RunLaws
 pub mod RunSteps
 pub mod CopySteps
 pub mod BlockLaws
+pub mod BlockLevels
 pub mod BlockSteps
+pub mod ThirdLaws
 pub mod RunBlockLaws

@@ -164,3 +164,19 @@ scan_cost before mid after cost l l' n n' levels flags scan same_length same_lan
     ap (λ k. k * levels * n) two ∙ ap (λ k. k * n) (add-mul (cost + 1) 1 levels) ∙ add-mul ((cost + 1) * levels) (1 * levels) n
     ∙ ap (λ k. (cost + 1) * levels * n + k * n) (one-mul levels) in
     omega (arith, flags, scan, told, all, split)
+
+-- so much for each level, with one level more, and below the last one
+pub one_more_level : (cost level : ℕ) → cost * (level + 1) ≡ cost * level + cost
+one_more_level cost level = mul-add cost level 1 ∙ ap (λ k. cost * level + k) (mul-one cost)
+
+pub level_within : (cost level last : ℕ) → level < last → cost * level + cost ≤ cost * last
+level_within cost level last below =
+    let most : cost * (level + 1) ≤ cost * last = mul-le-mul_left cost (omega arith) in
+    omega (arith, most, one_more_level cost level)
+
+-- the AND calls and the wires of the flags and of a scan
+pub scan_within : (before mid after base each cost l l' levels : ℕ) → mid ≤ before + (base + each * levels) → after ≤ mid + cost * l' → l' ≡ l → l ≤ levels
+    → after ≤ before + (base + (cost + each) * levels)
+scan_within before mid after base each cost l l' levels flags scan same few =
+    let most : cost * l' ≤ cost * levels = mul-le-mul_left cost (omega (arith, same)) in
+    omega (arith, flags, scan, most, add-mul cost each levels)

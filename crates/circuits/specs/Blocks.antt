@@ -2,6 +2,7 @@
 use Rattle.std.specs.Prelude.{ℕ, ◌+◌, ◌*◌, List, [], ◌∷◌, ◌++◌, length, map, slice_index, slice_range}
 use Rattle.std.specs.List.{fold, range_with_len}
 use Rattle.lanes.specs.Lanes.{lanewise}
+use Rattle.circuits.specs.Values.{saved_carries, saved_sums}
 
 -- the fold of words, from the first on
 abbrev pub words_folded : (ℕ → ℕ → ℕ) → List ℕ → ℕ
@@ -19,3 +20,10 @@ blocks_folded op count width xs = map (λ i. words_folded op (lane_of_blocks cou
 -- the first so many words folded with the next so many, and behind them the words that are left
 unfoldable pub halves_folded : (ℕ → ℕ → ℕ) → ℕ → List ℕ → List ℕ
 halves_folded op half xs = lanewise op (slice_range xs 0 half) (slice_range xs half (half + half)) ++ slice_range xs (half + half) (length xs)
+
+-- three lots of so many words as two with the same sums, and behind them the words that are left
+unfoldable pub thirds_saved : ℕ → List ℕ → List ℕ
+thirds_saved third xs =
+    (saved_sums (slice_range xs 0 third) (slice_range xs third (2 * third)) (slice_range xs (2 * third) (3 * third))
+    ++ saved_carries (slice_range xs 0 third) (slice_range xs third (2 * third)) (slice_range xs (2 * third) (3 * third)))
+    ++ slice_range xs (3 * third) (length xs)

@@ -1,9 +1,11 @@
 pub mod Values
+pub mod Halves
 pub mod Loops
 pub mod Folds
 pub mod Runs
 pub mod RunLoops
 pub mod Copies
 pub mod Blocks
+pub mod BlockCosts
 pub mod Laws
 pub mod FoldLaws

@@ -6,7 +6,7 @@ use Rattle.wires.specs.Environment.{Environment, words}
 use Rattle.wires.specs.Growth.{Carries, Grows}
 use Rattle.wires.specs.declared.wire.Wire.{Wire}
 use Rattle.circuits.specs.declared.folds.Fold.{Fold}
-use Rattle.circuits.specs.Folds.{combine_cost, combined_word}
+use Rattle.circuits.specs.Folds.{combine_calls, combine_cost, combine_wires, combined_word}
 use Rattle.circuits.specs.Runs.{by_lane, fold_back, run_before}
 use Rattle.circuits.specs.Values.{chosen_lanes}
 
@@ -30,6 +30,14 @@ taken_word None = λ earlier later. earlier
 abbrev pub taken_cost : Option Fold → ℕ
 taken_cost (Some fold) = combine_cost fold
 taken_cost None = 0
+
+abbrev pub taken_calls : Option Fold → ℕ
+taken_calls (Some fold) = combine_calls fold
+taken_calls None = 0
+
+abbrev pub taken_wires : Option Fold → ℕ
+taken_wires (Some fold) = combine_wires fold
+taken_wires None = 0
 
 -- in each lane the fold of its run so far, over fewer than so many lanes
 abbrev pub near_folds : (ℕ → ℕ → ℕ) → ℕ → List ℕ → List ℕ → List ℕ

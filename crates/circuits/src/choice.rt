@@ -1,7 +1,7 @@
 //! A choice between two words.
 #![tactic(auto)]
 
-ghost use Rattle.std.specs.Prelude.{◌≡◌, ◌+◌, ◌*◌, ◌≤◌, max, min, IfOk};
+ghost use Rattle.std.specs.Prelude.{◌≡◌, ◌+◌, ◌*◌, ◌≤◌, max, min, length, IfOk};
 ghost use Rattle.lanes.specs.Lanes.{lanewise};
 ghost use Rattle.wires.specs.Environment.{words};
 ghost use Rattle.wires.specs.Growth.{Carries, Grows, IsMade, lanes_of};
@@ -22,6 +22,8 @@ pub fn mux<W: Wires>(wires: &mut W, flag: Wire, one: Wire, zero: Wire) -> Result
     ensures ok { IfOk result (λ new. Carries (W.possible wires.new) (W.shape wires.new) new (lanes_of (W.shape wires.old) flag)
         (λ v. chosen_lanes (words v flag) (words v one) (words v zero))) }
     ensures cost { W.ands wires.new ≤ W.ands wires.old + lanes_of (W.shape wires.old) flag }
+    ensures calls { W.and_calls wires.new ≤ W.and_calls wires.old + 1 }
+    ensures wires { length (W.shape wires.new) ≤ length (W.shape wires.old) + 4 }
 {
     let new = choose(wires, flag, one, zero)?;
     Ok(new)
@@ -39,6 +41,8 @@ fn choose<W: Wires>(wires: &mut W, flag: Wire, one: Wire, zero: Wire) -> Result<
     ensures ok { IfOk result (λ new. Carries (W.possible wires.new) (W.shape wires.new) new (lanes_of (W.shape wires.old) flag)
         (λ v. masked_choice (words v flag) (words v one) (words v zero))) }
     ensures cost { W.ands wires.new ≤ W.ands wires.old + lanes_of (W.shape wires.old) flag }
+    ensures calls { W.and_calls wires.new ≤ W.and_calls wires.old + 1 }
+    ensures wires { length (W.shape wires.new) ≤ length (W.shape wires.old) + 4 }
 {
     let differing = wires.xor(one, zero)?;
     let mask = wires.spread(flag)?;
@@ -47,7 +51,7 @@ fn choose<W: Wires>(wires: &mut W, flag: Wire, one: Wire, zero: Wire) -> Result<
     Ok(new)
 }
 
-/// The lesser of two words, in each lane; 14 AND words a lane.
+/// The lesser of two words, in each lane; 8 AND words a lane.
 pub fn least<W: Wires>(wires: &mut W, left: Wire, right: Wire) -> Result<Wire, AllocError>
     requires left { IsMade (W.shape wires.old) left }
     requires right { IsMade (W.shape wires.old) right }
@@ -55,14 +59,16 @@ pub fn least<W: Wires>(wires: &mut W, left: Wire, right: Wire) -> Result<Wire, A
     ensures grows { Grows W.grown W.possible W.shape wires.old wires.new }
     ensures ok { IfOk result (λ new. Carries (W.possible wires.new) (W.shape wires.new) new (lanes_of (W.shape wires.old) left)
         (λ v. lanewise min (words v left) (words v right))) }
-    ensures cost { W.ands wires.new ≤ W.ands wires.old + 14 * lanes_of (W.shape wires.old) left }
+    ensures cost { W.ands wires.new ≤ W.ands wires.old + 8 * lanes_of (W.shape wires.old) left }
+    ensures calls { W.and_calls wires.new ≤ W.and_calls wires.old + 8 }
+    ensures wires { length (W.shape wires.new) ≤ length (W.shape wires.old) + 119 }
 {
     let less = lt(wires, left, right)?;
     let new = mux(wires, less, left, right)?;
     Ok(new)
 }
 
-/// The greater of two words, in each lane; 14 AND words a lane.
+/// The greater of two words, in each lane; 8 AND words a lane.
 pub fn greatest<W: Wires>(wires: &mut W, left: Wire, right: Wire) -> Result<Wire, AllocError>
     requires left { IsMade (W.shape wires.old) left }
     requires right { IsMade (W.shape wires.old) right }
@@ -70,7 +76,9 @@ pub fn greatest<W: Wires>(wires: &mut W, left: Wire, right: Wire) -> Result<Wire
     ensures grows { Grows W.grown W.possible W.shape wires.old wires.new }
     ensures ok { IfOk result (λ new. Carries (W.possible wires.new) (W.shape wires.new) new (lanes_of (W.shape wires.old) left)
         (λ v. lanewise max (words v left) (words v right))) }
-    ensures cost { W.ands wires.new ≤ W.ands wires.old + 14 * lanes_of (W.shape wires.old) left }
+    ensures cost { W.ands wires.new ≤ W.ands wires.old + 8 * lanes_of (W.shape wires.old) left }
+    ensures calls { W.and_calls wires.new ≤ W.and_calls wires.old + 8 }
+    ensures wires { length (W.shape wires.new) ≤ length (W.shape wires.old) + 119 }
 {
     let less = lt(wires, left, right)?;
     let new = mux(wires, less, right, left)?;

@@ -1,7 +1,7 @@
 //! Equality of words.
 #![tactic(auto)]
 
-ghost use Rattle.std.specs.Prelude.{◌≡◌, ◌+◌, ◌*◌, ◌≤◌, IfOk};
+ghost use Rattle.std.specs.Prelude.{◌≡◌, ◌+◌, ◌*◌, ◌≤◌, length, IfOk};
 ghost use Rattle.lanes.specs.Fold.{folded_word};
 ghost use Rattle.lanes.specs.Lanes.{lanewise, lanewise1};
 ghost use Rattle.lanes.specs.Sums.{equal_word};
@@ -23,6 +23,8 @@ pub fn eq<W: Wires>(wires: &mut W, left: Wire, right: Wire) -> Result<Wire, Allo
     ensures ok { IfOk result (λ new. Carries (W.possible wires.new) (W.shape wires.new) new (lanes_of (W.shape wires.old) left)
         (λ v. lanewise equal_word (words v left) (words v right))) }
     ensures cost { W.ands wires.new ≤ W.ands wires.old + 6 * lanes_of (W.shape wires.old) left }
+    ensures calls { W.and_calls wires.new ≤ W.and_calls wires.old + 6 }
+    ensures wires { length (W.shape wires.new) ≤ length (W.shape wires.old) + 15 }
 {
     let folded = fold_shared(wires, left, right)?;
     let new = wires.mask(folded, 1)?;
@@ -39,6 +41,8 @@ fn fold_shared<W: Wires>(wires: &mut W, left: Wire, right: Wire) -> Result<Wire,
     ensures ok { IfOk result (λ new. Carries (W.possible wires.new) (W.shape wires.new) new (lanes_of (W.shape wires.old) left)
         (λ v. shared_fold (words v left) (words v right))) }
     ensures cost { W.ands wires.new ≤ W.ands wires.old + 6 * lanes_of (W.shape wires.old) left }
+    ensures calls { W.and_calls wires.new ≤ W.and_calls wires.old + 6 }
+    ensures wires { length (W.shape wires.new) ≤ length (W.shape wires.old) + 14 }
 {
     let differing = wires.xor(left, right)?;
     let shared = wires.not(differing)?;
@@ -53,6 +57,8 @@ fn fold_all<W: Wires>(wires: &mut W, wire: Wire) -> Result<Wire, AllocError>
     ensures ok { IfOk result (λ new. Carries (W.possible wires.new) (W.shape wires.new) new (lanes_of (W.shape wires.old) wire)
         (λ v. lanewise1 (folded_word 6) (words v wire))) }
     ensures cost { W.ands wires.new ≤ W.ands wires.old + 6 * lanes_of (W.shape wires.old) wire }
+    ensures calls { W.and_calls wires.new ≤ W.and_calls wires.old + 6 }
+    ensures wires { length (W.shape wires.new) ≤ length (W.shape wires.old) + 12 }
 {
     let mut folded = wire;
     for level in 0..6u32 {
@@ -70,6 +76,8 @@ fn fold<W: Wires>(wires: &mut W, wire: Wire, places: u32) -> Result<Wire, AllocE
     ensures ok { IfOk result (λ new. Carries (W.possible wires.new) (W.shape wires.new) new (lanes_of (W.shape wires.old) wire)
         (λ v. fold_lanes places (words v wire))) }
     ensures cost { W.ands wires.new ≤ W.ands wires.old + lanes_of (W.shape wires.old) wire }
+    ensures calls { W.and_calls wires.new ≤ W.and_calls wires.old + 1 }
+    ensures wires { length (W.shape wires.new) ≤ length (W.shape wires.old) + 2 }
 {
     let moved = wires.right(wire, places)?;
     let new = wires.and(wire, moved)?;

@@ -1,13 +1,14 @@
 //! What lanes are folded by, and one step of a fold.
 #![tactic(auto)]
 
-ghost use Rattle.std.specs.Prelude.{◌≡◌, ◌+◌, ◌*◌, ◌≤◌, IfOk, bit_and};
+ghost use Rattle.std.specs.Prelude.{◌≡◌, ◌+◌, ◌*◌, ◌≤◌, length, IfOk, bit_and};
 ghost use Rattle.lanes.specs.Lanes.{lanewise, lanewise1};
 ghost use Rattle.wires.specs.Environment.{words};
 ghost use Rattle.wires.specs.Growth.{Carries, Grows, IsMade, lanes_of};
-ghost use Rattle.circuits.specs.Folds.{combine_cost, combined_word, masked_word};
+ghost use Rattle.circuits.specs.Folds.{combine_calls, combine_cost, combine_wires, combined_word, masked_word};
 ghost use Rattle.circuits.specs.Values.{cleared_lanes, raised_lanes};
 
+use crate::bits::or;
 use crate::choice::{greatest, least};
 use crate::sums::add;
 use std::alloc::AllocError;
@@ -22,9 +23,12 @@ pub enum Fold {
     Least,
     /// The greatest word.
     Greatest,
+    /// The or, bit by bit: of flags, whether any is 1.
+    Any,
 }
 
-/// Two words as one, in each lane; 13 AND words a lane for a sum, and else 14.
+/// Two words as one, in each lane; 7 AND words a lane for a sum, 8 for the least and the greatest,
+/// and one for any.
 pub fn combine<W: Wires>(
     wires: &mut W,
     fold: Fold,
@@ -38,6 +42,8 @@ pub fn combine<W: Wires>(
     ensures ok { IfOk result (λ new. Carries (W.possible wires.new) (W.shape wires.new) new (lanes_of (W.shape wires.old) left)
         (λ v. lanewise (combined_word fold) (words v left) (words v right))) }
     ensures cost { W.ands wires.new ≤ W.ands wires.old + combine_cost fold * lanes_of (W.shape wires.old) left }
+    ensures calls { W.and_calls wires.new ≤ W.and_calls wires.old + combine_calls fold }
+    ensures wires { length (W.shape wires.new) ≤ length (W.shape wires.old) + combine_wires fold }
 {
     match fold {
         Fold::Sum => {
@@ -50,6 +56,10 @@ pub fn combine<W: Wires>(
         }
         Fold::Greatest => {
             let new = greatest(wires, left, right)?;
+            Ok(new)
+        }
+        Fold::Any => {
+            let new = or(wires, left, right)?;
             Ok(new)
         }
     }
@@ -69,6 +79,8 @@ pub fn masked<W: Wires>(
     ensures ok { IfOk result (λ new. Carries (W.possible wires.new) (W.shape wires.new) new (lanes_of (W.shape wires.old) flag)
         (λ v. lanewise (masked_word fold) (words v flag) (words v word))) }
     ensures cost { W.ands wires.new ≤ W.ands wires.old + lanes_of (W.shape wires.old) flag }
+    ensures calls { W.and_calls wires.new ≤ W.and_calls wires.old + 1 }
+    ensures wires { length (W.shape wires.new) ≤ length (W.shape wires.old) + 4 }
 {
     match fold {
         Fold::Sum => {
@@ -80,6 +92,10 @@ pub fn masked<W: Wires>(
             Ok(new)
         }
         Fold::Greatest => {
+            let new = cleared(wires, flag, word)?;
+            Ok(new)
+        }
+        Fold::Any => {
             let new = cleared(wires, flag, word)?;
             Ok(new)
         }
@@ -96,6 +112,8 @@ fn cleared<W: Wires>(wires: &mut W, flag: Wire, word: Wire) -> Result<Wire, Allo
     ensures ok { IfOk result (λ new. Carries (W.possible wires.new) (W.shape wires.new) new (lanes_of (W.shape wires.old) flag)
         (λ v. cleared_lanes (words v flag) (words v word))) }
     ensures cost { W.ands wires.new ≤ W.ands wires.old + lanes_of (W.shape wires.old) flag }
+    ensures calls { W.and_calls wires.new ≤ W.and_calls wires.old + 1 }
+    ensures wires { length (W.shape wires.new) ≤ length (W.shape wires.old) + 2 }
 {
     let mask = wires.spread(flag)?;
     let new = wires.and(mask, word)?;
@@ -112,6 +130,8 @@ fn raised<W: Wires>(wires: &mut W, flag: Wire, word: Wire) -> Result<Wire, Alloc
     ensures ok { IfOk result (λ new. Carries (W.possible wires.new) (W.shape wires.new) new (lanes_of (W.shape wires.old) flag)
         (λ v. raised_lanes (words v flag) (words v word))) }
     ensures cost { W.ands wires.new ≤ W.ands wires.old + lanes_of (W.shape wires.old) flag }
+    ensures calls { W.and_calls wires.new ≤ W.and_calls wires.old + 1 }
+    ensures wires { length (W.shape wires.new) ≤ length (W.shape wires.old) + 4 }
 {
     let turned = wires.not(word)?;
     let kept = cleared(wires, flag, turned)?;

@@ -5,12 +5,16 @@
 //! the numeric function of the values of its arguments, lane by lane, at no more AND words than stated.
 #![tactic(auto)]
 
+mod bits;
+mod block_lanes;
 mod blocks;
+mod carry_save;
 mod choice;
 mod copies;
 mod equality;
 mod fold_laws;
 mod folds;
+mod halves;
 mod laws;
 mod places;
 mod prefix;
@@ -19,6 +23,7 @@ mod run_flags;
 mod runs;
 mod sums;
 
+pub use bits::or;
 pub use blocks::fold_blocks;
 pub use choice::{greatest, least, mux};
 pub use copies::run_copies;

@@ -1,21 +1,23 @@
 //! Products of words.
 #![tactic(auto)]
 
-ghost use Rattle.std.specs.Prelude.{◌≡◌, ◌+◌, ◌*◌, ◌≤◌, IfOk};
+ghost use Rattle.std.specs.Prelude.{◌≡◌, ◌+◌, ◌*◌, ◌≤◌, length, IfOk};
+ghost use Rattle.lanes.specs.CarrySave.{saved_terms};
 ghost use Rattle.lanes.specs.Lanes.{lanewise};
-ghost use Rattle.lanes.specs.Product.{product_after};
 ghost use Rattle.lanes.specs.Sums.{product_word};
 ghost use Rattle.wires.specs.Environment.{words};
 ghost use Rattle.wires.specs.Growth.{Carries, Grows, IsMade, lanes_of};
-ghost use Rattle.circuits.specs.Values.{added_lanes, term_lanes};
+ghost use Rattle.circuits.specs.Values.{saved_carries, saved_sums, term_lanes};
 
+use crate::carry_save::{Saved, save};
 use crate::sums::add;
 use std::alloc::AllocError;
 use wires::{Wire, Wires};
 
-/// The product of two words modulo 2^64, in each lane; 883 AND words a lane.
+/// The product of two words modulo 2^64, in each lane; 133 AND words a lane.
 ///
-/// The first word, moved up to each bit of the second that is 1, is added up: 64 terms, 63 sums.
+/// The first word, moved up to each bit of the second that is 1, is added up: 64 terms, of which three words become
+/// two with the same sum until two are left (after Wallace, 1964), and one addition.
 pub fn mul<W: Wires>(wires: &mut W, left: Wire, right: Wire) -> Result<Wire, AllocError>
     requires left { IsMade (W.shape wires.old) left }
     requires right { IsMade (W.shape wires.old) right }
@@ -23,51 +25,65 @@ pub fn mul<W: Wires>(wires: &mut W, left: Wire, right: Wire) -> Result<Wire, All
     ensures grows { Grows W.grown W.possible W.shape wires.old wires.new }
     ensures ok { IfOk result (λ new. Carries (W.possible wires.new) (W.shape wires.new) new (lanes_of (W.shape wires.old) left)
         (λ v. lanewise product_word (words v left) (words v right))) }
-    ensures cost { W.ands wires.new ≤ W.ands wires.old + 883 * lanes_of (W.shape wires.old) left }
+    ensures cost { W.ands wires.new ≤ W.ands wires.old + 133 * lanes_of (W.shape wires.old) left }
+    ensures calls { W.and_calls wires.new ≤ W.and_calls wires.old + 133 }
+    ensures wires { length (W.shape wires.new) ≤ length (W.shape wires.old) + 744 }
 {
-    let new = sum_of_terms(wires, left, right)?;
+    let terms = terms_saved(wires, left, right)?;
+    let new = add(wires, terms.sum, terms.carry)?;
     Ok(new)
 }
 
-// The sum of the terms of all 64 bits.
-fn sum_of_terms<W: Wires>(wires: &mut W, left: Wire, right: Wire) -> Result<Wire, AllocError>
+// The terms of all 64 bits as two words; 126 AND words a lane.
+fn terms_saved<W: Wires>(wires: &mut W, left: Wire, right: Wire) -> Result<Saved, AllocError>
     requires left { IsMade (W.shape wires.old) left }
     requires right { IsMade (W.shape wires.old) right }
     requires lanes { lanes_of (W.shape wires.old) left ≡ lanes_of (W.shape wires.old) right }
     ensures grows { Grows W.grown W.possible W.shape wires.old wires.new }
-    ensures ok { IfOk result (λ new. Carries (W.possible wires.new) (W.shape wires.new) new (lanes_of (W.shape wires.old) left)
-        (λ v. lanewise (product_after 63) (words v left) (words v right))) }
-    ensures cost { W.ands wires.new ≤ W.ands wires.old + 883 * lanes_of (W.shape wires.old) left }
+    ensures sum { IfOk result (λ new. Carries (W.possible wires.new) (W.shape wires.new) new.sum (lanes_of (W.shape wires.old) left)
+        (λ v. lanewise (λ x y. (saved_terms 62 x y).sum) (words v left) (words v right))) }
+    ensures carry { IfOk result (λ new. Carries (W.possible wires.new) (W.shape wires.new) new.carry (lanes_of (W.shape wires.old) left)
+        (λ v. lanewise (λ x y. (saved_terms 62 x y).carry) (words v left) (words v right))) }
+    ensures cost { W.ands wires.new ≤ W.ands wires.old + 126 * lanes_of (W.shape wires.old) left }
+    ensures calls { W.and_calls wires.new ≤ W.and_calls wires.old + 126 }
+    ensures wires { length (W.shape wires.new) ≤ length (W.shape wires.old) + 628 }
 {
-    let mut sum = term(wires, left, right, 0)?;
-    for place in 0..63u32 {
-        sum = add_term(wires, sum, left, right, place + 1)?;
+    let sum = term(wires, left, right, 0)?;
+    let carry = term(wires, left, right, 1)?;
+    let mut terms = Saved { sum, carry };
+    for place in 0..62u32 {
+        terms = save_term(wires, terms, left, right, place + 2)?;
     }
-    Ok(sum)
+    Ok(terms)
 }
 
-// A sum with the term of one more bit; 14 AND words a lane.
-#[tactic(auto, unfolding(crate::specs::Values::added_lanes))]
-fn add_term<W: Wires>(
+// The terms so far with that of one more bit; two AND words a lane.
+fn save_term<W: Wires>(
     wires: &mut W,
-    sum: Wire,
+    terms: Saved,
     left: Wire,
     right: Wire,
     place: u32,
-) -> Result<Wire, AllocError>
-    requires sum { IsMade (W.shape wires.old) sum }
+) -> Result<Saved, AllocError>
+    requires sum { IsMade (W.shape wires.old) terms.sum }
+    requires carry { IsMade (W.shape wires.old) terms.carry }
     requires left { IsMade (W.shape wires.old) left }
     requires right { IsMade (W.shape wires.old) right }
-    requires sum_lanes { lanes_of (W.shape wires.old) sum ≡ lanes_of (W.shape wires.old) left }
+    requires sum_lanes { lanes_of (W.shape wires.old) terms.sum ≡ lanes_of (W.shape wires.old) left }
+    requires carry_lanes { lanes_of (W.shape wires.old) terms.carry ≡ lanes_of (W.shape wires.old) left }
     requires lanes { lanes_of (W.shape wires.old) left ≡ lanes_of (W.shape wires.old) right }
     requires place { place ≤ 63 }
     ensures grows { Grows W.grown W.possible W.shape wires.old wires.new }
-    ensures ok { IfOk result (λ new. Carries (W.possible wires.new) (W.shape wires.new) new (lanes_of (W.shape wires.old) left)
-        (λ v. added_lanes place (words v sum) (words v left) (words v right))) }
-    ensures cost { W.ands wires.new ≤ W.ands wires.old + 14 * lanes_of (W.shape wires.old) left }
+    ensures sum { IfOk result (λ new. Carries (W.possible wires.new) (W.shape wires.new) new.sum (lanes_of (W.shape wires.old) left)
+        (λ v. saved_sums (words v terms.sum) (words v terms.carry) (term_lanes place (words v left) (words v right)))) }
+    ensures carry { IfOk result (λ new. Carries (W.possible wires.new) (W.shape wires.new) new.carry (lanes_of (W.shape wires.old) left)
+        (λ v. saved_carries (words v terms.sum) (words v terms.carry) (term_lanes place (words v left) (words v right)))) }
+    ensures cost { W.ands wires.new ≤ W.ands wires.old + 2 * lanes_of (W.shape wires.old) left }
+    ensures calls { W.and_calls wires.new ≤ W.and_calls wires.old + 2 }
+    ensures wires { length (W.shape wires.new) ≤ length (W.shape wires.old) + 10 }
 {
     let next = term(wires, left, right, place)?;
-    let new = add(wires, sum, next)?;
+    let new = save(wires, terms.sum, terms.carry, next)?;
     Ok(new)
 }
 
@@ -82,6 +98,8 @@ fn term<W: Wires>(wires: &mut W, left: Wire, right: Wire, place: u32) -> Result<
     ensures ok { IfOk result (λ new. Carries (W.possible wires.new) (W.shape wires.new) new (lanes_of (W.shape wires.old) left)
         (λ v. term_lanes place (words v left) (words v right))) }
     ensures cost { W.ands wires.new ≤ W.ands wires.old + lanes_of (W.shape wires.old) left }
+    ensures calls { W.and_calls wires.new ≤ W.and_calls wires.old + 1 }
+    ensures wires { length (W.shape wires.new) ≤ length (W.shape wires.old) + 4 }
 {
     let bit = wires.right(right, place)?;
     let mask = wires.spread(bit)?;

@@ -24,6 +24,9 @@ pub(crate) fn level_flags<W: Wires>(
     ensures few { IfOk result (λ flags. length flags.items ≤ 32) }
     ensures cost { (levels : ℕ) → lanes_of (W.shape wires.old) joined ≤ 2 ^ levels
         → W.ands wires.new ≤ W.ands wires.old + levels * lanes_of (W.shape wires.old) joined }
+    ensures calls { (levels : ℕ) → lanes_of (W.shape wires.old) joined ≤ 2 ^ levels → W.and_calls wires.new ≤ W.and_calls wires.old + levels }
+    ensures wires { (levels : ℕ) → lanes_of (W.shape wires.old) joined ≤ 2 ^ levels
+        → length (W.shape wires.new) ≤ length (W.shape wires.old) + (3 + 2 * levels) }
 {
     let lanes = wires.lanes(joined);
     let mut flag = first_flags(wires, alloc, joined)?;
@@ -45,6 +48,8 @@ fn first_flags<W: Wires>(wires: &mut W, alloc: Global, joined: Wire) -> Result<W
     ensures ok { IfOk result (λ new. Carries (W.possible wires.new) (W.shape wires.new) new (lanes_of (W.shape wires.old) joined)
         (λ v. reaching_lanes 1 (words v joined))) }
     ensures count { W.ands wires.new ≡ W.ands wires.old }
+    ensures calls { W.and_calls wires.new ≡ W.and_calls wires.old }
+    ensures wires { length (W.shape wires.new) ≤ length (W.shape wires.old) + 3 }
 {
     let places = places_but_first(alloc, wires.lanes(joined))?;
     let zero = wires.constant(&[0])?;
@@ -66,6 +71,8 @@ fn further_flags<W: Wires>(
     ensures ok { IfOk result (λ new. Carries (W.possible wires.new) (W.shape wires.new) new (lanes_of (W.shape wires.old) flag)
         (λ v. further_lanes places (words v flag))) }
     ensures cost { W.ands wires.new ≤ W.ands wires.old + lanes_of (W.shape wires.old) flag }
+    ensures calls { W.and_calls wires.new ≤ W.and_calls wires.old + 1 }
+    ensures wires { length (W.shape wires.new) ≤ length (W.shape wires.old) + 2 }
 {
     let moved = moved_along(wires, alloc, flag, places)?;
     let new = wires.and(flag, moved)?;
@@ -84,6 +91,8 @@ pub(crate) fn moved_along<W: Wires>(
     ensures ok { IfOk result (λ new. Carries (W.possible wires.new) (W.shape wires.new) new (lanes_of (W.shape wires.old) wire)
         (λ v. moved_lanes by (words v wire))) }
     ensures count { W.ands wires.new ≡ W.ands wires.old }
+    ensures calls { W.and_calls wires.new ≡ W.and_calls wires.old }
+    ensures wires { length (W.shape wires.new) ≤ length (W.shape wires.old) + 1 }
 {
     let places = places_before(alloc, wires.lanes(wire), by)?;
     let new = wires.gather(&[wire], places.as_slice())?;

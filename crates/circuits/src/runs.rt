@@ -3,16 +3,18 @@
 
 ghost use Rattle.std.specs.Prelude.{◌≡◌, ℕ, ◌+◌, ◌*◌, ◌^◌, ◌≤◌, Option, Some, None, length, IfOk};
 ghost use Rattle.lanes.specs.Lanes.{lanewise};
+ghost use Rattle.lanes.specs.Logarithm.{ceil_log2};
 ghost use Rattle.lanes.specs.Sums.{sum_word};
 ghost use Rattle.wires.specs.Environment.{words};
 ghost use Rattle.wires.specs.Growth.{Carries, Grows, IsMade, lanes_of};
-ghost use Rattle.circuits.specs.Folds.{combine_cost, combined_word};
-ghost use Rattle.circuits.specs.RunLoops.{LevelFlags, further_folds, taken_cost, taken_word};
+ghost use Rattle.circuits.specs.Folds.{combine_calls, combine_cost, combine_wires, combined_word};
+ghost use Rattle.circuits.specs.RunLoops.{LevelFlags, further_folds, taken_calls, taken_cost, taken_wires, taken_word};
 ghost use Rattle.circuits.specs.Runs.{runs_folded};
 
 use crate::choice::mux;
 use crate::folds::{Fold, combine};
 use crate::run_flags::{level_flags, moved_along};
+use lanes::log_laws;
 use std::alloc::{AllocError, Global};
 use wires::{Wire, Wires};
 
@@ -20,8 +22,8 @@ use wires::{Wire, Wires};
 ///
 /// Lane 0 begins a run, and a later lane belongs to the run of the lane before exactly where bit 0 of its word
 /// in `joined` is 1. On n lanes it costs, for each level of the least number l with n at most 2^l, the AND
-/// words of `combine` and two more a lane. The reach of a fold doubles with each level (after Hillis and
-/// Steele, 1986).
+/// words of `combine` and two more a lane, and as many AND calls as `combine` has and two more. The reach of a
+/// fold doubles with each level (after Hillis and Steele, 1986).
 pub fn run_folds<W: Wires>(
     wires: &mut W,
     alloc: Global,
@@ -35,15 +37,19 @@ pub fn run_folds<W: Wires>(
     ensures grows { Grows W.grown W.possible W.shape wires.old wires.new }
     ensures ok { IfOk result (λ new. Carries (W.possible wires.new) (W.shape wires.new) new (lanes_of (W.shape wires.old) joined)
         (λ v. runs_folded (combined_word fold) (words v joined) (words v column))) }
-    ensures cost { (levels : ℕ) → lanes_of (W.shape wires.old) joined ≤ 2 ^ levels
-        → W.ands wires.new ≤ W.ands wires.old + (combine_cost fold + 2) * levels * lanes_of (W.shape wires.old) joined }
+    ensures cost { W.ands wires.new ≤ W.ands wires.old
+        + (combine_cost fold + 2) * ceil_log2 (lanes_of (W.shape wires.old) joined) * lanes_of (W.shape wires.old) joined }
+    ensures calls { W.and_calls wires.new ≤ W.and_calls wires.old + (combine_calls fold + 2) * ceil_log2 (lanes_of (W.shape wires.old) joined) }
+    ensures wires { length (W.shape wires.new) ≤ length (W.shape wires.old)
+        + (3 + (combine_wires fold + 7) * ceil_log2 (lanes_of (W.shape wires.old) joined)) }
 {
+    log_laws();
     let flags = level_flags(wires, alloc, joined)?;
     let new = scan(wires, alloc, Some(fold), joined, flags.as_slice(), column)?;
     Ok(new)
 }
 
-/// In each lane the sum of its run so far, modulo 2^64; 15 AND words a lane and level, by the runs and levels of
+/// In each lane the sum of its run so far, modulo 2^64; 9 AND words a lane and level, by the runs and levels of
 /// `run_folds`.
 pub fn run_sums<W: Wires>(
     wires: &mut W,
@@ -57,8 +63,9 @@ pub fn run_sums<W: Wires>(
     ensures grows { Grows W.grown W.possible W.shape wires.old wires.new }
     ensures ok { IfOk result (λ new. Carries (W.possible wires.new) (W.shape wires.new) new (lanes_of (W.shape wires.old) joined)
         (λ v. runs_folded sum_word (words v joined) (words v column))) }
-    ensures cost { (levels : ℕ) → lanes_of (W.shape wires.old) joined ≤ 2 ^ levels
-        → W.ands wires.new ≤ W.ands wires.old + 15 * levels * lanes_of (W.shape wires.old) joined }
+    ensures cost { W.ands wires.new ≤ W.ands wires.old + 9 * ceil_log2 (lanes_of (W.shape wires.old) joined) * lanes_of (W.shape wires.old) joined }
+    ensures calls { W.and_calls wires.new ≤ W.and_calls wires.old + 9 * ceil_log2 (lanes_of (W.shape wires.old) joined) }
+    ensures wires { length (W.shape wires.new) ≤ length (W.shape wires.old) + (3 + 123 * ceil_log2 (lanes_of (W.shape wires.old) joined)) }
 {
     let new = run_folds(wires, alloc, Fold::Sum, joined, column)?;
     Ok(new)
@@ -84,6 +91,8 @@ pub(crate) fn scan<W: Wires>(
     ensures ok { IfOk result (λ new. Carries (W.possible wires.new) (W.shape wires.new) new (lanes_of (W.shape wires.old) joined)
         (λ v. runs_folded (taken_word fold) (words v joined) (words v column))) }
     ensures cost { W.ands wires.new ≤ W.ands wires.old + (taken_cost fold + 1) * length flags.now * lanes_of (W.shape wires.old) joined }
+    ensures calls { W.and_calls wires.new ≤ W.and_calls wires.old + (taken_calls fold + 1) * length flags.now }
+    ensures wires { length (W.shape wires.new) ≤ length (W.shape wires.old) + (taken_wires fold + 5) * length flags.now }
 {
     let mut folded = column;
     for level in 0..flags.len() {
@@ -109,6 +118,8 @@ fn further<W: Wires>(
     ensures ok { IfOk result (λ new. Carries (W.possible wires.new) (W.shape wires.new) new (lanes_of (W.shape wires.old) folded)
         (λ v. further_folds (taken_word fold) places (words v flag) (words v folded))) }
     ensures cost { W.ands wires.new ≤ W.ands wires.old + (taken_cost fold + 1) * lanes_of (W.shape wires.old) folded }
+    ensures calls { W.and_calls wires.new ≤ W.and_calls wires.old + (taken_calls fold + 1) }
+    ensures wires { length (W.shape wires.new) ≤ length (W.shape wires.old) + (taken_wires fold + 5) }
 {
     let moved = moved_along(wires, alloc, folded, places)?;
     let both = take(wires, fold, moved, folded)?;
@@ -130,6 +141,8 @@ fn take<W: Wires>(
     ensures ok { IfOk result (λ new. Carries (W.possible wires.new) (W.shape wires.new) new (lanes_of (W.shape wires.old) earlier)
         (λ v. lanewise (taken_word fold) (words v earlier) (words v later))) }
     ensures cost { W.ands wires.new ≤ W.ands wires.old + taken_cost fold * lanes_of (W.shape wires.old) earlier }
+    ensures calls { W.and_calls wires.new ≤ W.and_calls wires.old + taken_calls fold }
+    ensures wires { length (W.shape wires.new) ≤ length (W.shape wires.old) + taken_wires fold }
 {
     match fold {
         Some(fold) => {

@@ -1,13 +1,13 @@
--- The carries of a sum by a parallel prefix: spans of places, doubled until they reach the lowest place.
-use Rattle.std.proofs.Common.{◌≡◌, ℕ, zero, suc, ◌+◌, ◌-◌, ◌*◌, ◌/◌, ◌%◌, ◌^◌, ◌<◌, ◌≤◌, ◌⊎◌, min, sym, ap, ◌∙◌, subst, inl, inr, ⊎_elim, add-zero, arith}
+-- The carries of a sum, place by place.
+use Rattle.std.proofs.Common.{◌≡◌, ℕ, zero, suc, ◌+◌, ◌-◌, ◌*◌, ◌/◌, ◌%◌, ◌^◌, ◌<◌, ◌≤◌, ◌⊎◌, min, sym, ap, ◌∙◌, inl, inr, ⊎_elim, add-zero, arith}
 use Rattle.std.proofs.Math.Nat.{mul-one, mul-zero, one-mul, zero-mul}
 use Rattle.std.specs.Prelude.{bit_and, bit_xor}
 use Rattle.std.specs.Int.{bit_at}
 use Rattle.std.proofs.lemmas.Bool.{cases_lt}
 use Rattle.std.proofs.lemmas.Nat.{pow_pos, shr-shr, shr_split}
 use Rattle.std.proofs.lemmas.Nat.Bits.{bit_at-zero, bit_at_and, bit_at_xor, bit_at-lt, bit_at_cat_low, bit_at_cat_high, bit_at_lowest}
-use Rattle.lanes.specs.Shifts.{shifted_left}
-use Rattle.lanes.specs.Carry.{Span, carry_out, first_span, span_after, wider_span}
+use Rattle.lanes.specs.Shifts.{shifted_left, shifted_right}
+use Rattle.lanes.specs.Carry.{carry_out}
 
 -- a bit below the width of a remainder is the number's bit
 pub bit_at-mod : (m w i : ℕ) → i < w → bit_at (m % 2 ^ w) i ≡ bit_at m i
@@ -28,41 +28,21 @@ bit_at-shifted_high n x i above word =
     ∙ ap (λ m. bit_at m i) (sym (add-zero (x * 2 ^ n)))
     ∙ bit_at_cat_high x n 0 i (pow_pos n) above
 
--- the words of a span of n places tell the carries: out of the lowest n places at once, and above them by the carry n places below
-pub record Spans (out : ℕ → ℕ) (n : ℕ) (s : Span) : Type 0 where
-  pub apart : (i : ℕ) → i < 64 → bit_at s.generate i + bit_at s.propagate i ≤ 1
-  pub low : (i : ℕ) → i < n → i < 64 → out i ≡ bit_at s.generate i
-  pub high : (i : ℕ) → n ≤ i → i < 64 → out i ≡ bit_at s.generate i + bit_at s.propagate i * out (i - n)
+-- a bit of a word that was shifted towards the low bits
+pub bit_at-shifted_right : (n x i : ℕ) → bit_at (shifted_right n x) i ≡ bit_at x (i + n)
+bit_at-shifted_right n x i =
+    let place : n + i ≡ i + n = omega arith in
+    ap (λ q. q % 2) (shr-shr x n i ∙ ap (λ k. x / 2 ^ k) place)
 
 -- a bit is 0 or 1
 pub bit_cases : (b : ℕ) → b < 2 → (b ≡ 0) ⊎ (b ≡ 1)
 bit_cases b below = ⊎_elim (λ (h : b < 1). inl (omega arith)) (λ (h : 1 ≤ b). inr (omega arith)) (cases_lt b 1)
 
--- the bits of a wider span, at places that a shift by n leaves empty and at those behind them
-generate_low : (n i : ℕ) (s : Span) → i < n → i < 64 → bit_at (wider_span n s).generate i ≡ (bit_at s.generate i + min (bit_at s.propagate i) 0) % 2
-generate_low n i s below word =
-    bit_at_xor s.generate _ i
-    ∙ ap (λ b. (bit_at s.generate i + b) % 2) (bit_at_and s.propagate _ i ∙ ap (λ b. min (bit_at s.propagate i) b) (bit_at-shifted_low n s.generate i below word))
-
-generate_high : (n i : ℕ) (s : Span) → n ≤ i → i < 64
-    → bit_at (wider_span n s).generate i ≡ (bit_at s.generate i + min (bit_at s.propagate i) (bit_at s.generate (i - n))) % 2
-generate_high n i s above word =
-    bit_at_xor s.generate _ i
-    ∙ ap (λ b. (bit_at s.generate i + b) % 2) (bit_at_and s.propagate _ i ∙ ap (λ b. min (bit_at s.propagate i) b) (bit_at-shifted_high n s.generate i above word))
-
-propagate_low : (n i : ℕ) (s : Span) → i < n → i < 64 → bit_at (wider_span n s).propagate i ≡ min (bit_at s.propagate i) 0
-propagate_low n i s below word =
-    bit_at_and s.propagate _ i ∙ ap (λ b. min (bit_at s.propagate i) b) (bit_at-shifted_low n s.propagate i below word)
-
-propagate_high : (n i : ℕ) (s : Span) → n ≤ i → i < 64 → bit_at (wider_span n s).propagate i ≡ min (bit_at s.propagate i) (bit_at s.propagate (i - n))
-propagate_high n i s above word =
-    bit_at_and s.propagate _ i ∙ ap (λ b. min (bit_at s.propagate i) b) (bit_at-shifted_high n s.propagate i above word)
-
 -- two bits of a sum and a product of bits, at one place and at a place n below
-apart_wider : (g p g' p' : ℕ) → g + p ≤ 1 → g' + p' ≤ 1 → (g + min p g') % 2 + min p p' ≤ 1
+pub apart_wider : (g p g' p' : ℕ) → g + p ≤ 1 → g' + p' ≤ 1 → (g + min p g') % 2 + min p p' ≤ 1
 apart_wider g p g' p' one other = omega arith
 
-out_wider : (g p g' p' out : ℕ) → p < 2 → g + p ≤ 1 → g' + p' ≤ 1 → g + p * (g' + p' * out) ≡ (g + min p g') % 2 + min p p' * out
+pub out_wider : (g p g' p' out : ℕ) → p < 2 → g + p ≤ 1 → g' + p' ≤ 1 → g + p * (g' + p' * out) ≡ (g + min p g') % 2 + min p p' * out
 out_wider g p g' p' out bit one other =
     ⊎_elim (λ (none : p ≡ 0). rw none (zero_case g g' p' out (omega arith) other)) (λ (full : p ≡ 1). rw full (one_case g g' p' out (omega arith) other)) (bit_cases p bit)
   where
@@ -76,37 +56,6 @@ out_wider g p g' p' out bit one other =
         let same : min 1 p' ≡ p' = omega arith in
         rw (same, one-mul) (omega arith)
 
-out_low : (g p g' : ℕ) → p < 2 → g + p ≤ 1 → g' < 2 → g + p * g' ≡ (g + min p g') % 2
-out_low g p g' bit one other =
-    ⊎_elim (λ (none : p ≡ 0). rw (none, zero-mul) (omega arith)) (λ (full : p ≡ 1). rw (full, one-mul) (omega arith)) (bit_cases p bit)
-
--- spans of twice as many places
-pub widen : (out : ℕ → ℕ) (n : ℕ) (s : Span) → Spans out n s → Spans out (n + n) (wider_span n s)
-widen out n s h = record {
-  apart = λ i word. ⊎_elim
-      (λ (below : i < n). rw (generate_low n i s below word, propagate_low n i s below word) (omega (arith, h.apart i word)))
-      (λ (above : n ≤ i). rw (generate_high n i s above word, propagate_high n i s above word)
-      (apart_wider _ _ _ _ (h.apart i word) (h.apart (i - n) (omega arith))))
-      (cases_lt i n);
-  low = λ i within word. ⊎_elim
-      (λ (below : i < n). h.low i below word ∙ sym (generate_low n i s below word ∙ omega (arith, h.apart i word)))
-      (λ (above : n ≤ i).
-      h.high i above word
-      ∙ ap (λ b. bit_at s.generate i + bit_at s.propagate i * b) (h.low (i - n) (omega arith) (omega arith))
-      ∙ out_low _ _ _ (bit_at-lt s.propagate i) (h.apart i word) (bit_at-lt s.generate (i - n))
-      ∙ sym (generate_high n i s above word))
-      (cases_lt i n);
-  high = λ i above word.
-      let here : n ≤ i = omega arith in
-      let there : n ≤ i - n = omega arith in
-      let place : i - n - n ≡ i - (n + n) = omega arith in
-      h.high i here word
-      ∙ ap (λ b. bit_at s.generate i + bit_at s.propagate i * b) (h.high (i - n) there (omega arith) ∙ ap (λ k. bit_at s.generate (i - n) + bit_at s.propagate (i - n) * out k) place)
-      ∙ out_wider _ _ _ _ (out (i - (n + n))) (bit_at-lt s.propagate i) (h.apart i word) (h.apart (i - n) (omega arith))
-      ∙ sym (ap (λ b. b + bit_at (wider_span n s).propagate i * out (i - (n + n))) (generate_high n i s here word)
-      ∙ ap (λ b. (bit_at s.generate i + min (bit_at s.propagate i) (bit_at s.generate (i - n))) % 2 + b * out (i - (n + n))) (propagate_high n i s here word));
-}
-
 -- a carry is a bit
 carry_bit : (x y i : ℕ) → carry_out x y i < 2
 unfolding carry_out
@@ -118,32 +67,9 @@ carried : (a b c : ℕ) → a < 2 → b < 2 → c < 2 → (a + b + c) / 2 ≡ mi
 carried a b c first second below =
     ⊎_elim (λ (none : c ≡ 0). rw (none, mul-zero) (omega arith)) (λ (full : c ≡ 1). rw (full, mul-one) (omega arith)) (bit_cases c below)
 
-first_high : (x y i : ℕ) → 1 ≤ i → carry_out x y i ≡ bit_at (bit_and x y) i + bit_at (bit_xor x y) i * carry_out x y (i - 1)
+pub carry_above : (x y i : ℕ) → carry_out x y (suc i) ≡ bit_at (bit_and x y) (suc i) + bit_at (bit_xor x y) (suc i) * carry_out x y i
 unfolding carry_out
-first_high x y zero above = absurd (omega arith)
-first_high x y (suc i) above =
-    let below : suc i - 1 ≡ i = omega arith in
-    rw (below, bit_at_and, bit_at_xor) (carried _ _ _ (bit_at-lt x (suc i)) (bit_at-lt y (suc i)) (carry_bit x y i))
-
--- spans of one place
-pub first_spans : (x y : ℕ) → Spans (carry_out x y) 1 (first_span x y)
-unfolding carry_out
-first_spans x y = record {
-  apart = λ i word. rw (bit_at_and, bit_at_xor) (omega (arith, bit_at-lt x i, bit_at-lt y i));
-  low = λ i below word.
-      let lowest : i ≡ 0 = omega arith in
-      rw (lowest, bit_at_and) (omega (arith, bit_at-lt x 0, bit_at-lt y 0));
-  high = λ i above word. first_high x y i above;
-}
-
--- spans of 2 ^ level places
-pub spans_after : (level x y : ℕ) → Spans (carry_out x y) (2 ^ level) (span_after level x y)
-unfolding span_after
-spans_after zero x y = first_spans x y
-spans_after (suc level) x y =
-    let twice : 2 ^ level + 2 ^ level ≡ 2 ^ suc level = omega arith in
-    let P : ℕ → Type 0 = λ n. Spans (carry_out x y) n (span_after (suc level) x y) in
-    subst P twice (widen (carry_out x y) (2 ^ level) (span_after level x y) (spans_after level x y))
+carry_above x y i = rw (bit_at_and, bit_at_xor) (carried _ _ _ (bit_at-lt x (suc i)) (bit_at-lt y (suc i)) (carry_bit x y i))
 
 -- half of a quotient
 halved : (n i : ℕ) → n / 2 ^ suc (suc i) ≡ n / 2 ^ suc i / 2

@@ -6,9 +6,12 @@ pub mod WordsKept
 pub mod SharedAnd
 pub mod PartyLemmas
 pub mod Carries
+pub mod Masks
+pub mod Prefix
 pub mod WordSums
 pub mod WordChoice
 pub mod WordProduct
+pub mod CarrySave
 pub mod MaskedAnd
 pub mod XorThrough
 pub mod Items

@@ -1,17 +1,17 @@
 -- A choice between two words as xors and an and, and the equality of words as a fold of their bits.
-use Rattle.std.proofs.Common.{◌≡◌, ℕ, zero, suc, ◌+◌, ◌-◌, ◌*◌, ◌/◌, ◌%◌, ◌^◌, ◌<◌, ◌≤◌, ◌==◌, ◌⊎◌, ⊎_elim, inl, inr, true, false, min, sym, ap, ◌∙◌, arith}
+use Rattle.std.proofs.Common.{◌≡◌, ℕ, zero, suc, ◌+◌, ◌-◌, ◌*◌, ◌%◌, ◌^◌, ◌<◌, ◌≤◌, ◌==◌, ◌⊎◌, ⊎_elim, inl, inr, true, false, min, sym, ap, ◌∙◌, arith}
 use Rattle.std.specs.Prelude.{bit_and, bit_xor}
 use Rattle.std.specs.Int.{bit_at}
 use Rattle.std.specs.Int.Bits.{xor_self, xor_zero_r}
 use Rattle.std.proofs.lemmas.Bool.{cases_lt}
 use Rattle.std.proofs.lemmas.Bool.Decides.{nat_tests}
-use Rattle.std.proofs.lemmas.Nat.{and_comm, and_mask, mod_below, shr-shr, xor_comm, xor_lt}
+use Rattle.std.proofs.lemmas.Nat.{and_comm, and_mask, mod_below, xor_comm, xor_lt}
 use Rattle.std.proofs.lemmas.Nat.Bits.{bit_at_and, bit_at-lt, bit_at_lowest, bit_at_ones, same_from_bits_below}
 use Rattle.lanes.specs.Word.{word_not}
 use Rattle.lanes.specs.Shifts.{shifted_right, spread_word}
 use Rattle.lanes.specs.Sums.{chosen_word, equal_word}
 use Rattle.lanes.specs.Fold.{folded_word}
-use Rattle.lanes.proofs.Carries.{bit_cases}
+use Rattle.lanes.proofs.Carries.{bit_at-shifted_right, bit_cases}
 use Rattle.lanes.proofs.WordLemmas.{same_from_xor, xor_twice}
 use Rattle.lanes.proofs.WordSums.{word_not_is}
 
@@ -40,12 +40,6 @@ choice_by_mask flag one other first second =
 -- so many bits of a word from a place on are ones
 abbrev pub AllOnes : ℕ → ℕ → ℕ → Type 0
 AllOnes x i n = (j : ℕ) → j < n → bit_at x (i + j) ≡ 1
-
--- a bit of a word that was shifted towards the low bits
-pub bit_at-shifted_right : (n x i : ℕ) → bit_at (shifted_right n x) i ≡ bit_at x (i + n)
-bit_at-shifted_right n x i =
-    let place : n + i ≡ i + n = omega arith in
-    ap (λ q. q % 2) (shr-shr x n i ∙ ap (λ k. x / 2 ^ k) place)
 
 both_ones : (a b : ℕ) → a < 2 → b < 2 → min a b ≡ 1 → (a ≡ 1) × (b ≡ 1)
 both_ones a b first second is = (omega arith, omega arith)

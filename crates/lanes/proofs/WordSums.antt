@@ -10,9 +10,10 @@ use Rattle.std.proofs.lemmas.Nat.Bits.{bit_at_xor, same_from_bits_below}
 use Rattle.lanes.specs.Word.{word_not}
 use Rattle.lanes.specs.Shifts.{shifted_left, shifted_right}
 use Rattle.lanes.specs.Sums.{difference_word, less_word, sum_word}
-use Rattle.lanes.specs.Carry.{carries_word, carry_out, span_after}
-use Rattle.lanes.proofs.Carries.{bit_at-mod, bit_at-shifted_low, bit_at-shifted_high, spans_after, sum_behind, sum_bit, sum_bit_lowest}
-use Rattle.lanes.proofs.WordLemmas.{and_lt}
+use Rattle.lanes.specs.Carry.{carry_out}
+use Rattle.lanes.specs.Prefix.{carries_word}
+use Rattle.lanes.proofs.Carries.{bit_at-mod, bit_at-shifted_low, bit_at-shifted_high, sum_behind, sum_bit, sum_bit_lowest}
+use Rattle.lanes.proofs.Prefix.{last_blocks, span_words}
 
 -- a word turned is what it lacks to all ones
 pub word_not_is : (x : ℕ) → x < 2 ^ 64 → word_not x ≡ 2 ^ 64 - 1 - x
@@ -20,19 +21,10 @@ word_not_is x below = omega (arith, xor_add_and x (2 ^ 64 - 1), and_mask x 64)
 
 -- the carry out of a place is a bit of the carries' word
 pub carries_bit : (x y i : ℕ) → i < 64 → carry_out x y i ≡ bit_at (carries_word x y) i
-carries_bit x y i word = (spans_after 6 x y).low i word word
-
--- spans of words are words
-span_words : (level x y : ℕ) → x < 2 ^ 64 → y < 2 ^ 64 → ((span_after level x y).generate < 2 ^ 64) × ((span_after level x y).propagate < 2 ^ 64)
-unfolding span_after
-span_words zero x y first second = (and_lt 64 x y first, xor_lt 64 x y first second)
-span_words (suc level) x y first second =
-    let s = span_after level x y in
-    let below = span_words level x y first second in
-    (xor_lt 64 s.generate _ below.0 (and_lt 64 s.propagate (shifted_left (2 ^ level) s.generate) below.1), and_lt 64 s.propagate (shifted_left (2 ^ level) s.propagate) below.1)
+carries_bit x y i word = last_blocks x y i word
 
 pub carries_lt : (x y : ℕ) → x < 2 ^ 64 → y < 2 ^ 64 → carries_word x y < 2 ^ 64
-carries_lt x y first second = (span_words 6 x y first second).0
+carries_lt x y first second = (span_words 6 x y (omega arith) first second).0
 
 whole : (a b : ℕ) → ((a + b) % 2 + 0) % 2 ≡ (a + b) % 2
 whole a b = omega arith

@@ -6,8 +6,10 @@ pub mod Laws
 pub mod Shifts
 pub mod Sums
 pub mod Carry
+pub mod Prefix
 pub mod Fold
 pub mod Product
+pub mod CarrySave
 pub mod Items
 pub mod XorLaws
 pub mod SharedAnd

@@ -1,4 +1,5 @@
 //! Laws of lane-wise words and of the three parties. Each function does nothing, and its contract is the law.
+ghost use Rattle.lanes.specs.CarrySave.{CarrySaveKeepsSum};
 ghost use Rattle.lanes.specs.Folds.{FoldFromFirst, FoldOfAppended, FoldOfZipped};
 ghost use Rattle.lanes.specs.Items.{LaneItems, LaneLengths, WordsOfParts, WordsStay};
 ghost use Rattle.lanes.specs.Laws.{XorCommutes, XorAssociates, MaskComesOff, AndDistributes, NotOfOneShare, PickOfXor, PickOfPick, AndOfShares, GoRound, PutIsAt};
@@ -68,4 +69,9 @@ pub fn log_laws()
     ensures least { IsLeastLog }
     ensures numbers { LogOfNumbers }
     ensures doublings { LogCountsDoublings }
+{}
+
+/// Three words as two with the same sum.
+pub fn word_laws()
+    ensures carry_save { CarrySaveKeepsSum }
 {}

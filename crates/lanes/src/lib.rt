@@ -15,7 +15,8 @@ mod three;
 
 pub use lane_work::{pick_words, shared_and, shared_ands, xor_into, xor_words};
 pub use laws::{
-    fold_laws, item_laws, lane_laws, log_laws, party_laws, shared_and_laws, table_laws, xor_laws,
+    fold_laws, item_laws, lane_laws, log_laws, party_laws, shared_and_laws, table_laws, word_laws,
+    xor_laws,
 };
 pub use listed::{Listed, Numbers, Words};
 pub use log::ceil_log2;

@@ -8,8 +8,8 @@ use std::alloc::{AllocError, Global};
 use std::test::Fail;
 use wires::{Clear, Tally, Wires};
 
-// The folds, and the AND words a lane of each.
-const FOLDS: [(Fold, u64); 3] = [(Fold::Sum, 13), (Fold::Least, 14), (Fold::Greatest, 14)];
+// The folds, and the AND words a lane of each for a block more than two.
+const FOLDS: [(Fold, u64); 3] = [(Fold::Sum, 1), (Fold::Least, 8), (Fold::Greatest, 8)];
 
 // Numbers of blocks, and lanes of each.
 const SIZES: [(usize, usize); 8] = [
@@ -49,6 +49,7 @@ fn expected(fold: Fold, words: &[u64], width: usize, lane: usize) -> u64
         Fold::Sum => 0,
         Fold::Least => u64::MAX,
         Fold::Greatest => 0,
+        Fold::Any => 0,
     };
     for (at, word) in words.iter().enumerate() {
         if at % width == lane {
@@ -111,9 +112,14 @@ fn folds_of_blocks_cost_what_is_promised(rt: HostRuntime) -> Result<(), Fail> {
             assert!(rt; lanes < 16 && count > 0 && width <= lanes);
             let cost = cost_of(rt.alloc(), fold, zeros.as_slice(), count, width)?;
             let folded_lanes = (lanes - width) as u64;
+            let addition = if fold == Fold::Sum && count > 1 {
+                6u64.wrapping_mul(width as u64)
+            } else {
+                0
+            };
             assert_eq!(rt;
                 cost,
-                words.wrapping_mul(folded_lanes),
+                words.wrapping_mul(folded_lanes).wrapping_add(addition),
                 "{fold:?} of {count} blocks"
             );
         }

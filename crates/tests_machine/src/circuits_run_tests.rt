@@ -9,10 +9,10 @@ use wires::{Clear, Tally, Wires};
 
 // The folds, of which none is the sums, and the AND words a lane and level of each.
 const FOLDS: [(Option<Fold>, u32); 4] = [
-    (None, 15),
-    (Some(Fold::Sum), 15),
-    (Some(Fold::Least), 16),
-    (Some(Fold::Greatest), 16),
+    (None, 9),
+    (Some(Fold::Sum), 9),
+    (Some(Fold::Least), 10),
+    (Some(Fold::Greatest), 10),
 ];
 
 // The words of the folds of runs; a fold of none is the sums.
@@ -63,6 +63,7 @@ pub(crate) fn folded(fold: Fold, left: u64, right: u64) -> u64 {
         Fold::Sum => left.wrapping_add(right),
         Fold::Least => left.min(right),
         Fold::Greatest => left.max(right),
+        Fold::Any => left | right,
     }
 }
 

@@ -25,16 +25,16 @@ enum Circuit {
 // Each circuit, and its AND words a lane.
 const CIRCUITS: [(Circuit, u32); 14] = [
     (Circuit::Eq, 6),
-    (Circuit::Lt, 13),
-    (Circuit::Add, 13),
-    (Circuit::Sub, 13),
-    (Circuit::Mul, 883),
+    (Circuit::Lt, 7),
+    (Circuit::Add, 7),
+    (Circuit::Sub, 7),
+    (Circuit::Mul, 133),
     (Circuit::Mux, 1),
-    (Circuit::Least, 14),
-    (Circuit::Greatest, 14),
-    (Circuit::Combine(Fold::Sum), 13),
-    (Circuit::Combine(Fold::Least), 14),
-    (Circuit::Combine(Fold::Greatest), 14),
+    (Circuit::Least, 8),
+    (Circuit::Greatest, 8),
+    (Circuit::Combine(Fold::Sum), 7),
+    (Circuit::Combine(Fold::Least), 8),
+    (Circuit::Combine(Fold::Greatest), 8),
     (Circuit::Masked(Fold::Sum), 1),
     (Circuit::Masked(Fold::Least), 1),
     (Circuit::Masked(Fold::Greatest), 1),
@@ -67,6 +67,7 @@ fn expected(circuit: Circuit, left: u64, right: u64) -> u64 {
         Circuit::Eq => u64::from(left == right),
         Circuit::Lt => u64::from(left < right),
         Circuit::Add | Circuit::Combine(Fold::Sum) => left.wrapping_add(right),
+        Circuit::Combine(Fold::Any) => left | right,
         Circuit::Sub => left.wrapping_sub(right),
         Circuit::Mul => left.wrapping_mul(right),
         Circuit::Mux => { if left % 2 == 1 { left } else { right } }
@@ -80,6 +81,7 @@ fn expected(circuit: Circuit, left: u64, right: u64) -> u64 {
                     Fold::Sum => 0,
                     Fold::Least => u64::MAX,
                     Fold::Greatest => 0,
+                    Fold::Any => 0,
                 }
             }
         }

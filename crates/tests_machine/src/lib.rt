@@ -7,6 +7,8 @@
 #[cfg(test)]
 mod circuits_block_tests;
 #[cfg(test)]
+mod circuits_count_tests;
+#[cfg(test)]
 mod circuits_run_tests;
 #[cfg(test)]
 mod circuits_tests;

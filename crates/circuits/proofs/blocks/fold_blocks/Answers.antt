@@ -1,39 +1,50 @@
-use Rattle.std.proofs.Common.{◌/◌, ◌<◌, refl, arith}
-use Rattle.circuits.specs.Folds.{combine_cost, combined_word}
-use Rattle.circuits.proofs.BlockLaws.{combined_semigroup}
-use Rattle.circuits.proofs.BlockSteps.{folding_cost, folding_ends, folding_goes_on, halves_within, level_cost}
+use Rattle.lanes.specs.Logarithm.{ceil_log2}
 use Rattle.circuits.proofs.blocks.fold_blocks.Goals as goal
 
-pub fold_halves-requires-clause-lanes : goal.fold_halves-requires-clause-lanes
-fold_halves-requires-clause-lanes g c =
-    let some : 1 < c.loop-left.left = omega (arith, c.loop-left-test.true) in
-    omega (arith, halves_within c.loop-left.left c.args.width some, c.loop-left.invariant.lanes)
+pub returns-in_err-new-in-Sum-clause-calls : goal.returns-in_err-new-in-Sum-clause-calls
+returns-in_err-new-in-Sum-clause-calls g c = rw (c.in-Sum.is) (c.in_err-new-in-Sum.ensures.calls (ceil_log2 c.args.count) (c.log_laws.ensures.least.enough c.args.count))
 
-pub returns-in_err-folded-clause-cost : goal.returns-in_err-folded-clause-cost
-returns-in_err-folded-clause-cost g c =
-    let w = g.W.Wires in
-    let some : 1 < c.loop-left.left = omega (arith, c.loop-left-test.true) in
-    level_cost (w.ands c.args.wires.now) (w.ands c.loop-left.wires) (w.ands c.fold_halves.new.wires) (combine_cost c.args.fold) c.args.width c.args.count c.loop-left.left (c.loop-left.left / 2)
-    c.loop-left.invariant.spent c.in_err-folded.ensures.cost (omega arith) c.requires.some
+pub returns-in_err-new-in-Sum-clause-wires : goal.returns-in_err-new-in-Sum-clause-wires
+returns-in_err-new-in-Sum-clause-wires g c = rw (c.in-Sum.is) (c.in_err-new-in-Sum.ensures.wires (ceil_log2 c.args.count) (c.log_laws.ensures.least.enough c.args.count))
 
-pub loop-left-preserved : goal.loop-left-preserved
-loop-left-preserved g c =
-    let w = g.W.Wires in
-    let inv = c.loop-left.invariant in
-    folding_goes_on w.grown w.possible w.shape w.ands c.args.wires.now c.loop-left.wires c.fold_halves.new.wires (combined_word c.args.fold) c.args.blocks c.loop-left.folded c.in_ok-folded.folded
-    c.args.count c.loop-left.left (c.loop-left.left / 2) c.args.width (combine_cost c.args.fold) (combined_semigroup c.args.fold)
-    (λ v possible. (g.met.W.Wires.fits c.loop-left.wires v c.loop-left.folded possible inv.made).count)
-    inv c.fold_halves.ensures.grows c.in_ok-folded.ensures.ok c.in_ok-folded.ensures.cost refl (omega (arith, c.loop-left-test.true))
+pub returns-in_err-new-in-Least-clause-calls : goal.returns-in_err-new-in-Least-clause-calls
+returns-in_err-new-in-Least-clause-calls g c = rw (c.in-Least.is) (c.in_err-new-in-Least.ensures.calls (ceil_log2 c.args.count) (c.log_laws.ensures.least.enough c.args.count))
 
-pub returns-clause-ok : goal.returns-clause-ok
-returns-clause-ok g c =
-    let w = g.W.Wires in
-    let inv = c.loop-left.invariant in
-    folding_ends w.grown w.possible w.shape w.ands c.args.wires.now c.loop-left.wires (combined_word c.args.fold) c.args.blocks c.loop-left.folded c.args.count c.loop-left.left c.args.width _
-    (λ v possible. (g.met.W.Wires.fits c.loop-left.wires v c.loop-left.folded possible inv.made).count)
-    inv (omega (arith, inv.some))
+pub returns-in_err-new-in-Least-clause-wires : goal.returns-in_err-new-in-Least-clause-wires
+returns-in_err-new-in-Least-clause-wires g c = rw (c.in-Least.is) (c.in_err-new-in-Least.ensures.wires (ceil_log2 c.args.count) (c.log_laws.ensures.least.enough c.args.count))
 
-pub returns-clause-cost : goal.returns-clause-cost
-returns-clause-cost g c =
-    let w = g.W.Wires in
-    folding_cost (w.ands c.args.wires.now) (w.ands c.loop-left.wires) _ c.args.count c.loop-left.left c.loop-left.invariant.spent c.loop-left.invariant.some c.requires.some
+pub returns-in_err-new-in-Greatest-clause-calls : goal.returns-in_err-new-in-Greatest-clause-calls
+returns-in_err-new-in-Greatest-clause-calls g c = rw (c.in-Greatest.is) (c.in_err-new-in-Greatest.ensures.calls (ceil_log2 c.args.count) (c.log_laws.ensures.least.enough c.args.count))
+
+pub returns-in_err-new-in-Greatest-clause-wires : goal.returns-in_err-new-in-Greatest-clause-wires
+returns-in_err-new-in-Greatest-clause-wires g c = rw (c.in-Greatest.is) (c.in_err-new-in-Greatest.ensures.wires (ceil_log2 c.args.count) (c.log_laws.ensures.least.enough c.args.count))
+
+pub returns-in_err-new-in-Any-clause-calls : goal.returns-in_err-new-in-Any-clause-calls
+returns-in_err-new-in-Any-clause-calls g c = rw (c.in-Any.is) (c.in_err-new-in-Any.ensures.calls (ceil_log2 c.args.count) (c.log_laws.ensures.least.enough c.args.count))
+
+pub returns-in_err-new-in-Any-clause-wires : goal.returns-in_err-new-in-Any-clause-wires
+returns-in_err-new-in-Any-clause-wires g c = rw (c.in-Any.is) (c.in_err-new-in-Any.ensures.wires (ceil_log2 c.args.count) (c.log_laws.ensures.least.enough c.args.count))
+
+pub returns-in_ok-new-in-Sum-clause-calls : goal.returns-in_ok-new-in-Sum-clause-calls
+returns-in_ok-new-in-Sum-clause-calls g c = rw (c.in-Sum.is) (c.in_ok-new-in-Sum.ensures.calls (ceil_log2 c.args.count) (c.log_laws.ensures.least.enough c.args.count))
+
+pub returns-in_ok-new-in-Sum-clause-wires : goal.returns-in_ok-new-in-Sum-clause-wires
+returns-in_ok-new-in-Sum-clause-wires g c = rw (c.in-Sum.is) (c.in_ok-new-in-Sum.ensures.wires (ceil_log2 c.args.count) (c.log_laws.ensures.least.enough c.args.count))
+
+pub returns-in_ok-new-in-Least-clause-calls : goal.returns-in_ok-new-in-Least-clause-calls
+returns-in_ok-new-in-Least-clause-calls g c = rw (c.in-Least.is) (c.in_ok-new-in-Least.ensures.calls (ceil_log2 c.args.count) (c.log_laws.ensures.least.enough c.args.count))
+
+pub returns-in_ok-new-in-Least-clause-wires : goal.returns-in_ok-new-in-Least-clause-wires
+returns-in_ok-new-in-Least-clause-wires g c = rw (c.in-Least.is) (c.in_ok-new-in-Least.ensures.wires (ceil_log2 c.args.count) (c.log_laws.ensures.least.enough c.args.count))
+
+pub returns-in_ok-new-in-Greatest-clause-calls : goal.returns-in_ok-new-in-Greatest-clause-calls
+returns-in_ok-new-in-Greatest-clause-calls g c = rw (c.in-Greatest.is) (c.in_ok-new-in-Greatest.ensures.calls (ceil_log2 c.args.count) (c.log_laws.ensures.least.enough c.args.count))
+
+pub returns-in_ok-new-in-Greatest-clause-wires : goal.returns-in_ok-new-in-Greatest-clause-wires
+returns-in_ok-new-in-Greatest-clause-wires g c = rw (c.in-Greatest.is) (c.in_ok-new-in-Greatest.ensures.wires (ceil_log2 c.args.count) (c.log_laws.ensures.least.enough c.args.count))
+
+pub returns-in_ok-new-in-Any-clause-calls : goal.returns-in_ok-new-in-Any-clause-calls
+returns-in_ok-new-in-Any-clause-calls g c = rw (c.in-Any.is) (c.in_ok-new-in-Any.ensures.calls (ceil_log2 c.args.count) (c.log_laws.ensures.least.enough c.args.count))
+
+pub returns-in_ok-new-in-Any-clause-wires : goal.returns-in_ok-new-in-Any-clause-wires
+returns-in_ok-new-in-Any-clause-wires g c = rw (c.in-Any.is) (c.in_ok-new-in-Any.ensures.wires (ceil_log2 c.args.count) (c.log_laws.ensures.least.enough c.args.count))

@@ -29,3 +29,11 @@ returns-in_ok-new-in-Greatest-clause-ok g c =
     restated _ _ _ _ _ (λ v. lanewise (masked_word c.args.fold) (words v c.args.flag) (words v c.args.word)) c.in_ok-new-in-Greatest.ensures.ok
     (λ v possible. cleared_is (words v c.args.flag) (words v c.args.word) (fits c.args.wires.now v c.args.word (before v possible) c.requires.word).below
     ∙ ap (λ f. lanewise (masked_word f) (words v c.args.flag) (words v c.args.word)) (sym c.in-Greatest.is))
+
+pub returns-in_ok-new-in-Any-clause-ok : goal.returns-in_ok-new-in-Any-clause-ok
+returns-in_ok-new-in-Any-clause-ok g c =
+    let fits = g.met.W.Wires.fits in
+    let before = c.cleared-in-Any.ensures.grows.within in
+    restated _ _ _ _ _ (λ v. lanewise (masked_word c.args.fold) (words v c.args.flag) (words v c.args.word)) c.in_ok-new-in-Any.ensures.ok
+    (λ v possible. cleared_is (words v c.args.flag) (words v c.args.word) (fits c.args.wires.now v c.args.word (before v possible) c.requires.word).below
+    ∙ ap (λ f. lanewise (masked_word f) (words v c.args.flag) (words v c.args.word)) (sym c.in-Any.is))

@@ -1,72 +1,34 @@
-use Rattle.std.proofs.Common.{◌∙◌, arith}
-use Rattle.lanes.specs.Carry.{span_after}
-use Rattle.wires.specs.Growth.{lanes_of}
-use Rattle.circuits.proofs.Levels.{grows_then, level_cost, places_of, spans_go_on}
-use Rattle.circuits.proofs.Restated.{carried_on}
+use Rattle.std.proofs.Common.{◌^◌, ap, ◌∙◌}
+use Rattle.lanes.specs.Lanes.{lanewise}
+use Rattle.lanes.specs.Prefix.{half_products, lower_places, span_after}
+use Rattle.wires.specs.Environment.{words}
+use Rattle.circuits.specs.Values.{generates_lanes}
+use Rattle.circuits.proofs.LaneValues.{generates_join}
 use Rattle.circuits.proofs.prefix.carries.Goals as goal
 
-pub loop-level-init : goal.loop-level-init
-unfolding span_after
-loop-level-init g c =
-    let w = g.W.Wires in
-    let kept = carried_on w.grown w.possible w.shape c.and.new.self c.xor.new.self c.in_ok-generate.generate _ _ c.xor.ensures.grows c.in_ok-generate.ensures.ok in
-    let xor = c.in_ok-propagate.ensures.ok in
+pub returns-clause-ok : goal.returns-clause-ok
+returns-clause-ok g c =
+    let spans = c.in_ok-spans.ensures in
+    let products = c.in_ok-products.ensures.ok in
+    let new = c.in_ok-new.ensures.ok in
+    let halves = c.halves_of-halves.result in
+    let are = c.halves_of-halves.ensures.are in
     record {
-      grows = grows_then w.grown w.possible w.shape c.args.wires.now c.and.new.self c.xor.new.self c.and.ensures.grows c.xor.ensures.grows;
-      generate = record { made = kept.made; lanes = kept.lanes; value = kept.value };
-      propagate = record { made = xor.made; lanes = xor.lanes ∙ c.and.ensures.grows.keeps.lanes c.args.left.0 c.requires.left; value = xor.value };
-      spent = omega (arith, c.in_ok-generate.ensures.count, c.in_ok-propagate.ensures.count);
+      made = new.made;
+      lanes = new.lanes ∙ c.products_of_halves.ensures.grows.keeps.lanes c.in_ok-spans.spans.generate.0 spans.generate.made ∙ spans.generate.lanes;
+      value = λ v possible.
+          let before_join = c.join_generate.ensures.grows.within v possible in
+          let earlier = c.products_of_halves.ensures.grows.within v before_join in
+          let left = words v c.args.left in
+          let right = words v c.args.right in
+          let gs = lanewise (λ x y. (span_after 5 x y).generate) left right in
+          let ps = lanewise (λ x y. (span_after 5 x y).propagate) left right in
+          new.value v possible
+          ∙ ap (generates_lanes halves.places halves.lower (words v c.in_ok-spans.spans.generate)) (products.value v before_join)
+          ∙ ap (λ xs. generates_lanes halves.places halves.lower xs (lanewise (half_products halves.level) xs (words v c.in_ok-spans.spans.propagate))) (spans.generate.value v earlier)
+          ∙ ap (λ xs. generates_lanes halves.places halves.lower gs (lanewise (half_products halves.level) gs xs)) (spans.propagate.value v earlier)
+          ∙ ap (λ k. generates_lanes k halves.lower gs (lanewise (half_products halves.level) gs ps)) are.places
+          ∙ ap (λ m. generates_lanes (2 ^ halves.level) m gs (lanewise (half_products halves.level) gs ps)) are.lower
+          ∙ ap (λ k. generates_lanes (2 ^ k) (lower_places k) gs (lanewise (half_products k) gs ps)) c.halves_of-halves.ensures.level
+          ∙ generates_join 5 left right;
     }
-
-pub widen_generate-requires-clause-generate : goal.widen_generate-requires-clause-generate
-widen_generate-requires-clause-generate g c = c.loop-level.invariant.generate.made
-
-pub widen_generate-requires-clause-propagate : goal.widen_generate-requires-clause-propagate
-widen_generate-requires-clause-propagate g c = c.loop-level.invariant.propagate.made
-
-pub widen_generate-requires-clause-lanes : goal.widen_generate-requires-clause-lanes
-widen_generate-requires-clause-lanes g c = omega (arith, c.loop-level.invariant.generate.lanes, c.loop-level.invariant.propagate.lanes)
-
-pub widen_generate-requires-clause-places : goal.widen_generate-requires-clause-places
-widen_generate-requires-clause-places g c =
-    let p = places_of c.loop-level.level c.loop-level-test.true in
-    omega (arith, p.0, p.1)
-
-pub loop-level-preserved : goal.loop-level-preserved
-loop-level-preserved g c =
-    let w = g.W.Wires in
-    spans_go_on w.grown w.possible w.shape w.ands c.args.wires.now c.loop-level.wires c.widen_generate.new.wires c.widen_propagate.new.wires c.args.left c.args.right
-    c.loop-level.generate c.loop-level.propagate c.in_ok-wider.wider c.in_ok-propagate-2.propagate (lanes_of (w.shape c.args.wires.now) c.args.left) c.loop-level.level _
-    c.loop-level.invariant c.widen_generate.ensures.grows c.in_ok-wider.ensures.ok c.in_ok-wider.ensures.cost
-    c.widen_propagate.ensures.grows c.in_ok-propagate-2.ensures.ok c.in_ok-propagate-2.ensures.cost (places_of c.loop-level.level c.loop-level-test.true).0
-
-pub widen_propagate-requires-clause-places : goal.widen_propagate-requires-clause-places
-widen_propagate-requires-clause-places g c =
-    let p = places_of c.loop-level.level c.loop-level-test.true in
-    omega (arith, p.0, p.1)
-
-pub returns-in_err-wider-clause-grows : goal.returns-in_err-wider-clause-grows
-returns-in_err-wider-clause-grows g c =
-    let w = g.W.Wires in
-    grows_then w.grown w.possible w.shape c.args.wires.now c.loop-level.wires c.widen_generate.new.wires c.loop-level.invariant.grows c.widen_generate.ensures.grows
-
-pub returns-in_err-propagate-2-clause-grows : goal.returns-in_err-propagate-2-clause-grows
-returns-in_err-propagate-2-clause-grows g c =
-    let w = g.W.Wires in
-    grows_then w.grown w.possible w.shape c.args.wires.now c.loop-level.wires c.widen_propagate.new.wires c.loop-level.invariant.grows
-    (grows_then w.grown w.possible w.shape c.loop-level.wires c.widen_generate.new.wires c.widen_propagate.new.wires c.widen_generate.ensures.grows c.widen_propagate.ensures.grows)
-
-pub returns-in_err-propagate-2-clause-cost : goal.returns-in_err-propagate-2-clause-cost
-returns-in_err-propagate-2-clause-cost g c =
-    let inv = c.loop-level.invariant in
-    let kept = c.widen_generate.ensures.grows.keeps.lanes c.loop-level.propagate.0 inv.propagate.made in
-    omega (
-      arith,
-      inv.spent,
-      inv.generate.lanes,
-      inv.propagate.lanes,
-      kept,
-      c.in_ok-wider.ensures.cost,
-      c.in_err-propagate-2.ensures.cost,
-      level_cost c.loop-level.level 6 (lanes_of (g.W.Wires.shape c.args.wires.now) c.args.left) c.loop-level-test.true,
-    )

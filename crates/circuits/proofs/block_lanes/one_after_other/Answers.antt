@@ -5,7 +5,7 @@ use Rattle.std.proofs.lemmas.List.FromFn.{length-range_with_len}
 use Rattle.lanes.specs.Lanes.{picked}
 use Rattle.wires.specs.Environment.{words}
 use Rattle.circuits.proofs.BlockLaws.{all_is, between_within}
-use Rattle.circuits.proofs.blocks.one_after_other.Goals as goal
+use Rattle.circuits.proofs.block_lanes.one_after_other.Goals as goal
 
 pub gather-requires-clause-few : goal.gather-requires-clause-few
 gather-requires-clause-few g c =
