@@ -14,7 +14,7 @@ use Rattle.query_graph.specs.declared.operator.Operator.TheVariants as operators
 use Rattle.query_graph.specs.Content.{Content}
 use Rattle.query_graph.specs.IsGraph.{FitsSources, IsGraph, IsGroup, IsJoin, IsSource}
 use Rattle.query_graph.specs.Parties.{has}
-use Rattle.query_graph.specs.Statements.{sources_of}
+use Rattle.query_graph.specs.Observers.{clear_at_of, sources_of, via_of}
 use Rattle.plain_operators.specs.Operators.{left_keys, right_keys}
 use Rattle.trust_sets.specs.declared.fault.TrustFault.{TrustFault}
 use Rattle.trust_sets.specs.declared.fault.TrustFault.TheVariants as faults
@@ -22,7 +22,7 @@ use Rattle.trust_sets.specs.declared.known.Known.{Known}
 use Rattle.trust_sets.specs.Faults.{columns_at, fault_at, is_key, is_key_of_side, is_needed, node_fault, place_of, source_fault, sources_fault, untrusted_column}
 use Rattle.trust_sets.specs.Known.{column_set, known_at}
 use Rattle.trust_sets.specs.Laws.{KnowsColumn}
-use Rattle.trust_sets.specs.Rules.{Asks, clear_of, keys_at, via_of}
+use Rattle.trust_sets.specs.Rules.{Asks, keys_at}
 
 -- ---- keys
 
@@ -79,7 +79,7 @@ none_is (Some p) party some is = is
 
 -- what a statement asks of a source with so many columns
 abbrev pub Asked : Operator → ℕ → ℕ → ℕ → ℕ → Type 0
-Asked shape party place column width = ((via_of shape ≡ Some party) × Contains (keys_at shape place) column) ⊎ ((clear_of shape ≡ Some party) × (column < width))
+Asked shape party place column width = ((via_of shape ≡ Some party) × Contains (keys_at shape place) column) ⊎ ((clear_at_of shape ≡ Some party) × (column < width))
 
 -- of a join on one side
 join_asked : (via clear : Option ℕ) (keys : List ℕ) (party column width : ℕ) (among : Bool) → option_or via clear ≡ Some party → (is_none via || among) ≡ true → (among ≡ true → Contains keys column)

@@ -16,7 +16,7 @@ use Rattle.query_graph.specs.declared.parties.Parties.{Parties}
 use Rattle.query_graph.specs.Content.{Content}
 use Rattle.query_graph.specs.IsGraph.{IsGraph}
 use Rattle.query_graph.specs.Parties.{has}
-use Rattle.query_graph.specs.Statements.{sources_of}
+use Rattle.query_graph.specs.Observers.{sources_of}
 use Rattle.trust_sets.specs.declared.fault.TrustFault.{TrustFault}
 use Rattle.trust_sets.specs.declared.fault.TrustFault.TheVariants as faults
 use Rattle.trust_sets.specs.declared.known.Known.{Known}

@@ -14,7 +14,7 @@ use Rattle.query_graph.specs.declared.operator.Operator.TheVariants as operators
 use Rattle.query_graph.specs.declared.operator.Relation.{Relation}
 use Rattle.query_graph.specs.Content.{Content}
 use Rattle.query_graph.specs.IsGraph.{FitsSources, IsGraph, IsSource}
-use Rattle.query_graph.specs.Statements.{sources_of}
+use Rattle.query_graph.specs.Observers.{sources_of}
 use Rattle.query_graph.specs.Parties.{has}
 use Rattle.trust_sets.specs.declared.withheld.Withheld.{Withheld}
 use Rattle.trust_sets.specs.Release.{first_relation, nothing_withheld, release_set, withheld_at, withheld_behind, withheld_from, withheld_node, withheld_nodes, withheld_of_both, withheld_relation}

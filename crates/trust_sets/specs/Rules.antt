@@ -1,10 +1,10 @@
 -- The rules on trust and on release, in their own words.
-use Rattle.std.specs.Prelude.{◌≡◌, ℕ, zero, suc, ◌<◌, ◌≤◌, ◌↔◌, true, false, List, [], Option, Some, None, length, slice_get, ◌⊎◌}
+use Rattle.std.specs.Prelude.{◌≡◌, ℕ, zero, suc, ◌<◌, ◌≤◌, ◌↔◌, true, false, List, [], Some, None, length, slice_get, ◌⊎◌}
 use Rattle.std.specs.List.{All, Contains}
 use Rattle.query_graph.specs.Content.{Content}
 use Rattle.query_graph.specs.IsGraph.{IsGraph}
 use Rattle.query_graph.specs.Parties.{has}
-use Rattle.query_graph.specs.Statements.{sources_of}
+use Rattle.query_graph.specs.Observers.{clear_at_of, sources_of, via_of}
 use Rattle.query_graph.specs.declared.node.Node.{Node}
 use Rattle.query_graph.specs.declared.node.Output.{Output}
 use Rattle.query_graph.specs.declared.operator.Operator.{Operator}
@@ -21,26 +21,6 @@ use Rattle.trust_sets.specs.Release.{release_set}
 use Rattle.trust_sets.specs.Trust.{trust_of}
 use Rattle.trust_sets.specs.Under.{IsUnder, IsUnreleased}
 
--- the party that a statement names by `via`
-abbrev pub via_of : Operator → Option ℕ
-via_of (operators.Relation r) = None
-via_of (operators.Filter f) = None
-via_of (operators.Select s) = None
-via_of (operators.Concat c) = None
-via_of (operators.Join j) = j.via
-via_of (operators.Group g) = g.via
-via_of (operators.Distinct d) = None
-
--- and by `clear at`
-abbrev pub clear_of : Operator → Option ℕ
-clear_of (operators.Relation r) = None
-clear_of (operators.Filter f) = f.clear_at
-clear_of (operators.Select s) = s.clear_at
-clear_of (operators.Concat c) = None
-clear_of (operators.Join j) = j.clear_at
-clear_of (operators.Group g) = g.clear_at
-clear_of (operators.Distinct d) = d.clear_at
-
 -- the keys in the source at this place: of a join on the left and on the right
 abbrev pub keys_at : Operator → ℕ → List ℕ
 keys_at (operators.Join j) zero = left_keys j.keys
@@ -52,7 +32,7 @@ keys_at _ place = []
 -- each source, and of the one that it names by `clear at` each column of each source
 pub record Asks (nodes : List Node) (shape : Operator) (party place source column : ℕ) : Type 0 where
   pub is_source : slice_get (sources_of shape) place ≡ Some source
-  pub asked : ((via_of shape ≡ Some party) × Contains (keys_at shape place) column) ⊎ ((clear_of shape ≡ Some party) × (column < length (columns_at nodes source)))
+  pub asked : ((via_of shape ≡ Some party) × Contains (keys_at shape place) column) ⊎ ((clear_at_of shape ≡ Some party) × (column < length (columns_at nodes source)))
 
 -- each party may know each column with which the statement asks that it be trusted
 abbrev pub KeepsTrust : List Node → Node → Type 0

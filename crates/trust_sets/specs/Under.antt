@@ -7,7 +7,7 @@ use Rattle.query_graph.specs.declared.operator.Operator.TheVariants as operators
 use Rattle.query_graph.specs.declared.operator.Relation.{Relation}
 use Rattle.query_graph.specs.Content.{Content}
 use Rattle.query_graph.specs.IsGraph.{IsGraph}
-use Rattle.query_graph.specs.Statements.{sources_of}
+use Rattle.query_graph.specs.Observers.{sources_of}
 use Rattle.query_graph.specs.Parties.{has}
 use Rattle.trust_sets.specs.Release.{release_set, withheld_at, withheld_from, withheld_nodes}
 
