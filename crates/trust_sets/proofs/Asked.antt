@@ -1,8 +1,8 @@
 -- The columns with which a statement asks that a party be trusted are those of which a node's fault speaks.
-use Rattle.std.proofs.Common.{◌≡◌, ℕ, zero, suc, ◌+◌, ◌<◌, ◌≤◌, ◌⊎◌, inl, inr, Bool, true, false, cond, not, ◌&&◌, ◌||◌, List, [], ◌∷◌, Option, Some, None, map, length, get_or, refl, sym, ap, ◌∙◌, subst, arith}
+use Rattle.std.proofs.Common.{◌≡◌, ℕ, zero, suc, ◌<◌, ◌⊎◌, inl, inr, Bool, true, false, ◌||◌, List, [], ◌∷◌, Option, Some, None, map, length, get_or, refl, sym, ap, ◌∙◌, subst, arith}
 use Rattle.std.specs.Prelude.{◌==◌, slice_get, All, IsSomeAnd}
 use Rattle.std.specs.List.{Contains, list_any}
-use Rattle.std.specs.Option.{is_none, option_map, option_map_or, option_or}
+use Rattle.std.specs.Option.{is_none, option_map_or, option_or}
 use Rattle.std.proofs.lemmas.Bool.{false≢true}
 use Rattle.std.proofs.lemmas.Bool.Decides.{nat_tests}
 use Rattle.std.proofs.lemmas.List.{get_or-map, length-map}
@@ -11,17 +11,10 @@ use Rattle.query_text.specs.Grammar.{IsNotBoth}
 use Rattle.query_graph.specs.declared.node.Node.{Node}
 use Rattle.query_graph.specs.declared.operator.Operator.{Operator}
 use Rattle.query_graph.specs.declared.operator.Operator.TheVariants as operators
-use Rattle.query_graph.specs.Content.{Content}
-use Rattle.query_graph.specs.IsGraph.{FitsSources, IsGraph, IsGroup, IsJoin, IsSource}
-use Rattle.query_graph.specs.Parties.{has}
-use Rattle.query_graph.specs.Observers.{clear_at_of, sources_of, via_of}
+use Rattle.query_graph.specs.IsGraph.{FitsSources}
+use Rattle.query_graph.specs.Observers.{clear_at_of, via_of}
 use Rattle.plain_operators.specs.Operators.{left_keys, right_keys}
-use Rattle.trust_sets.specs.declared.fault.TrustFault.{TrustFault}
-use Rattle.trust_sets.specs.declared.fault.TrustFault.TheVariants as faults
-use Rattle.trust_sets.specs.declared.known.Known.{Known}
-use Rattle.trust_sets.specs.Faults.{columns_at, fault_at, is_key, is_key_of_side, is_needed, node_fault, place_of, source_fault, sources_fault, untrusted_column}
-use Rattle.trust_sets.specs.Known.{column_set, known_at}
-use Rattle.trust_sets.specs.Laws.{KnowsColumn}
+use Rattle.trust_sets.specs.Faults.{columns_at, is_key, is_key_of_side, is_needed, place_of}
 use Rattle.trust_sets.specs.Rules.{Asks, keys_at}
 
 -- ---- keys
@@ -174,8 +167,8 @@ needs_of nodes i n (operators.Join j) party zero source column fits asks =
     let same : j.left ≡ source = let is = asks.is_source in cc in
     let columns = columns_are nodes source left.0 (subst (λ s. slice_get nodes s ≡ Some left.0) same left.1) in
     let needs = join_needs j.via j.clear_at (left_keys j.keys) party column (length (columns_at nodes source)) (is_key_of_side false j.keys column) right.2.one_place
-        (λ found. all_map (λ (key : ℕ × ℕ). key.0) (length (columns_at nodes source)) j.keys (λ k d inside. rw columns (right.2.keys k d inside).on_left) found.0 column found.1 found.2)
-        (among_found (λ (key : ℕ × ℕ). key.0) column j.keys) asks.asked in
+    (λ found. all_map (λ (key : ℕ × ℕ). key.0) (length (columns_at nodes source)) j.keys (λ k d inside. rw columns (right.2.keys k d inside).on_left) found.0 column found.1 found.2)
+    (among_found (λ (key : ℕ × ℕ). key.0) column j.keys) asks.asked in
     record { named = needs.0; needed = needs.1; within = needs.2 }
 needs_of nodes i n (operators.Join j) party (suc zero) source column fits asks =
     let left = some_columns (slice_get nodes j.left) _ fits.fits in
@@ -183,8 +176,8 @@ needs_of nodes i n (operators.Join j) party (suc zero) source column fits asks =
     let same : j.right ≡ source = let is = asks.is_source in cc in
     let columns = columns_are nodes source right.0 (subst (λ s. slice_get nodes s ≡ Some right.0) same right.1) in
     let needs = join_needs j.via j.clear_at (right_keys j.keys) party column (length (columns_at nodes source)) (is_key_of_side true j.keys column) right.2.one_place
-        (λ found. all_map (λ (key : ℕ × ℕ). key.1) (length (columns_at nodes source)) j.keys (λ k d inside. rw columns (right.2.keys k d inside).on_right) found.0 column found.1 found.2)
-        (among_found (λ (key : ℕ × ℕ). key.1) column j.keys) asks.asked in
+    (λ found. all_map (λ (key : ℕ × ℕ). key.1) (length (columns_at nodes source)) j.keys (λ k d inside. rw columns (right.2.keys k d inside).on_right) found.0 column found.1 found.2)
+    (among_found (λ (key : ℕ × ℕ). key.1) column j.keys) asks.asked in
     record { named = needs.0; needed = needs.1; within = needs.2 }
 needs_of nodes i n (operators.Join j) party (suc (suc place)) source column fits asks = absurd (let none = asks.is_source in cc)
 needs_of nodes i n (operators.Group g) party place source column fits asks =
@@ -192,7 +185,7 @@ needs_of nodes i n (operators.Group g) party place source column fits asks =
     let same = (one_source g.source place source asks.is_source).1 in
     let columns = columns_are nodes source own.0 (subst (λ s. slice_get nodes s ≡ Some own.0) same own.1) in
     let needs = join_needs g.via g.clear_at g.keys party column (length (columns_at nodes source)) (is_key g.keys column) own.2.one_place
-        (λ found. rw columns (key_within g.keys (length own.0.columns) column own.2.keys found)) (found_key g.keys column) asks.asked in
+    (λ found. rw columns (key_within g.keys (length own.0.columns) column own.2.keys found)) (found_key g.keys column) asks.asked in
     record { named = needs.0; needed = needs.1; within = needs.2 }
 needs_of nodes i n (operators.Distinct d) party place source column fits asks = clear_only asks.asked
   where

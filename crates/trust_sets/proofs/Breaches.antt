@@ -1,10 +1,9 @@
 -- The fault of a graph is the first statement that breaks a rule.
-use Rattle.std.proofs.Common.{◌≡◌, ℕ, zero, suc, ◌+◌, ◌<◌, ◌≤◌, ◌⊎◌, inl, inr, Bool, true, false, cond, not, ◌&&◌, List, [], ◌∷◌, Option, Some, None, length, get_or, refl, sym, ap, ◌∙◌, subst, arith}
-use Rattle.std.specs.Prelude.{◌==◌, ◌≢◌, slice_get, All, AllPairs, IsSomeAnd, nat_le}
+use Rattle.std.proofs.Common.{◌≡◌, ℕ, zero, suc, ◌+◌, ◌<◌, ◌≤◌, ◌⊎◌, inl, inr, Bool, true, false, cond, not, ◌&&◌, List, [], ◌∷◌, Option, Some, None, length, refl, sym, ap, ◌∙◌, subst, arith}
+use Rattle.std.specs.Prelude.{◌==◌, slice_get, IsSomeAnd}
 use Rattle.std.specs.Option.{option_map, option_or}
 use Rattle.std.proofs.lemmas.Bool.{cases_lt, false≢true, true≢false}
 use Rattle.std.proofs.lemmas.Bool.Decides.{nat_tests}
-use Rattle.std.proofs.lemmas.Option.{get_or_from_slice_get, slice_get-get_or, slice_get_within}
 use Rattle.words.specs.declared.column.Column.{Column}
 use Rattle.query_text.specs.Parties.{IsParty}
 use Rattle.query_graph.specs.declared.node.Node.{Node}
@@ -20,14 +19,12 @@ use Rattle.query_graph.specs.Observers.{sources_of}
 use Rattle.trust_sets.specs.declared.fault.TrustFault.{TrustFault}
 use Rattle.trust_sets.specs.declared.fault.TrustFault.TheVariants as faults
 use Rattle.trust_sets.specs.declared.known.Known.{Known}
-use Rattle.trust_sets.specs.declared.withheld.Withheld.{Withheld}
 use Rattle.trust_sets.specs.Agreement.{IsRelation}
-use Rattle.trust_sets.specs.Faults.{columns_at, earlier_fault, fault_at, first_fault, is_needed, line_of, node_fault, nodes_fault, output_fault, outputs_fault, place_of, recipient_fault, source_fault, sources_fault, untrusted_column}
+use Rattle.trust_sets.specs.Faults.{columns_at, fault_at, is_needed, line_of, node_fault, output_fault, place_of, recipient_fault, source_fault, sources_fault, untrusted_column}
 use Rattle.trust_sets.specs.Known.{column_set, known_at, known_nodes}
 use Rattle.trust_sets.specs.Laws.{KnowsColumn}
 use Rattle.trust_sets.specs.Release.{release_set, withheld_at, withheld_from, withheld_nodes}
-use Rattle.trust_sets.specs.Rules.{Asks, BreaksRelease, BreaksTrust, IsFirstBreach, KeepsRelease, KeepsRules, KeepsRulesBefore, KeepsTrust, RulesInWords}
-use Rattle.trust_sets.specs.Trust.{trust_of}
+use Rattle.trust_sets.specs.Rules.{Asks, BreaksRelease, BreaksTrust, IsFirstBreach, KeepsRelease, KeepsRulesBefore, KeepsTrust}
 use Rattle.trust_sets.specs.Under.{IsUnder, IsUnreleased}
 use Rattle.trust_sets.proofs.Asked.{Needs, asked_of, needs_of}
 use Rattle.trust_sets.proofs.Unreleased.{withheld_is_first}
@@ -231,15 +228,15 @@ module _ (graph : Content) (is_graph : IsGraph graph) (number : ℕ) (node : Nod
         asks = record { is_source = found.is_source; asked = asked_of node.shape party found.place column.0 (length (columns_at graph.nodes source)) found.side named.1 finds.needed (from_first column.0 (length (columns_at graph.nodes source)) finds.within) };
         unknown = finds.unknown;
         first = λ place' source' column' asks earlier.
-        let needs = needs_here party place' source' column' asks in
-        elim earlier [
-          | inl lower ↦ knows_column party place' source' column' needs (found.earlier place' source' lower asks.is_source)
-          | inr here ↦
-              let same : source ≡ source' = some_same source source' (slice_get (sources_of node.shape) found.place) found.is_source
-              (subst (λ p. slice_get (sources_of node.shape) p ≡ Some source') here.0 asks.is_source) in
-              subst (λ s. KnowsColumn party (known_at known s) column') same
-              (finds.lower column' (omega arith) here.1 (subst (λ p. is_needed node.shape (p == 1) column' ≡ true) here.0 needs.needed))
-        ];
+            let needs = needs_here party place' source' column' asks in
+            elim earlier [
+              | inl lower ↦ knows_column party place' source' column' needs (found.earlier place' source' lower asks.is_source)
+              | inr here ↦
+                  let same : source ≡ source' = some_same source source' (slice_get (sources_of node.shape) found.place) found.is_source
+                  (subst (λ p. slice_get (sources_of node.shape) p ≡ Some source') here.0 asks.is_source) in
+                  subst (λ s. KnowsColumn party (known_at known s) column') same
+                  (finds.lower column' (omega arith) here.1 (subst (λ p. is_needed node.shape (p == 1) column' ≡ true) here.0 needs.needed))
+            ];
         before = before;
       } in
       subst (IsFirstBreach graph) column.2 breach

@@ -8,7 +8,6 @@ use Rattle.std.proofs.lemmas.Option.{get_or_from_slice_get, slice_get_within}
 use Rattle.bags.specs.Laws.{BagsAreEquivalence}
 use Rattle.query_graph.specs.declared.operand.Aggregate.{Aggregate}
 use Rattle.query_graph.specs.declared.operand.Aggregate.TheVariants as aggregates
-use Rattle.query_graph.specs.declared.operand.Test.{Test}
 use Rattle.query_graph.specs.declared.parties.Parties.{Parties}
 use Rattle.query_graph.specs.Parties.{common_parties, has, no_party}
 use Rattle.plain_operators.specs.Columns.{other_columns}
@@ -16,11 +15,11 @@ use Rattle.plain_operators.specs.Operators.{left_keys, right_keys}
 use Rattle.plain_operators.specs.Sizes.{AllWide}
 use Rattle.plain_meaning.specs.Meaning.{meanings, rows_of}
 use Rattle.trust_sets.specs.declared.known.Known.{Known}
-use Rattle.trust_sets.specs.Agreement.{Agree, known_columns}
+use Rattle.trust_sets.specs.Agreement.{known_columns}
 use Rattle.trust_sets.specs.Known.{aggregate_set, column_set, grouped_set, joined_set, known_at, known_concat, known_filter, known_group, known_join, known_nodes, met_with, other_sets}
 use Rattle.trust_sets.specs.Laws.{KnowsColumn, KnowsRows}
 use Rattle.trust_sets.specs.MayKnow.{AgreementIsEquivalence, KnownColumnsAreSame, KnowsAggregate, RowsNarrow, WhatColumnsNeed}
-use Rattle.trust_sets.specs.Steps.{SameFor, SameIfKnown}
+use Rattle.trust_sets.specs.Steps.{SameIfKnown}
 use Rattle.trust_sets.proofs.Alike.{fewer_columns}
 use Rattle.trust_sets.proofs.ConcatStep.{concat_column, concat_rows, concat_wide}
 use Rattle.trust_sets.proofs.Needs.{in_both}
@@ -114,8 +113,8 @@ pub known_columns_are_same : KnownColumnsAreSame
 known_columns_are_same = record {
   rows = λ party source columns xs ys all same. fewer_columns party source columns all xs ys same;
   nodes = λ graph party world other is_graph is_world is_other agree node columns knows all.
-    fewer_columns party (known_at (known_nodes graph.nodes) node) columns all (rows_of (meanings graph.nodes world) node) (rows_of (meanings graph.nodes other) node)
-    (trust_lemma graph party world other is_graph is_world is_other agree node knows);
+      fewer_columns party (known_at (known_nodes graph.nodes) node) columns all (rows_of (meanings graph.nodes world) node) (rows_of (meanings graph.nodes other) node)
+      (trust_lemma graph party world other is_graph is_world is_other agree node knows);
 }
 
 fewer : (party : ℕ) (more less : Known) (xs ys : List (List ℕ)) → length more.columns ≡ length less.columns → (KnowsRows party less → KnowsRows party more)

@@ -1,6 +1,6 @@
 -- Faults of nodes and of outputs, and which statement comes first.
-use Rattle.std.proofs.Common.{◌≡◌, ℕ, zero, suc, ◌+◌, ◌<◌, ◌≤◌, ◌⊎◌, inl, inr, Bool, true, false, cond, List, [], ◌∷◌, Option, Some, None, length, get_or, refl, sym, ap, ◌∙◌, subst, arith, add-zero, zero-add}
-use Rattle.std.specs.Prelude.{◌≢◌, slice_get, All, AllPairs, nat_le}
+use Rattle.std.proofs.Common.{◌≡◌, ℕ, zero, suc, ◌+◌, ◌<◌, ◌≤◌, inl, inr, Bool, true, false, cond, List, [], ◌∷◌, Option, Some, None, get_or, refl, sym, ap, ◌∙◌, subst, arith, add-zero, zero-add}
+use Rattle.std.specs.Prelude.{slice_get, AllPairs, nat_le}
 use Rattle.std.specs.Option.{option_or}
 use Rattle.std.proofs.lemmas.Bool.{cases_lt, false≢true}
 use Rattle.std.proofs.lemmas.Bool.Decides.{nat_tests}
@@ -120,12 +120,12 @@ module _ (graph : Content) (is : IsGraph graph) where
   unfolding TrustBefore ReleaseBefore
   before line trust release = record {
     trust = λ i d within earlier.
-      let n = get_or graph.nodes i d in
-      let at = slice_get-get_or graph.nodes i d within in
-      keeps_trust graph is i n at (trust i n at earlier);
+        let n = get_or graph.nodes i d in
+        let at = slice_get-get_or graph.nodes i d within in
+        keeps_trust graph is i n at (trust i n at earlier);
     release = λ i d within earlier.
-      let o = get_or graph.outputs i d in
-      keeps_release graph is o (release i o (slice_get-get_or graph.outputs i d within) earlier);
+        let o = get_or graph.outputs i d in
+        keeps_release graph is o (release i o (slice_get-get_or graph.outputs i d within) earlier);
   }
 
   no_node : of_nodes ≡ None → (k : ℕ) (n : Node) → slice_get graph.nodes k ≡ Some n → node_fault graph (known_nodes graph.nodes) k n ≡ None
@@ -219,8 +219,8 @@ module _ (graph : Content) (is : IsGraph graph) where
       let both = earlier_none of_nodes of_outputs none in
       record {
         trust = λ i d within.
-          let at = slice_get-get_or graph.nodes i d within in
-          keeps_trust graph is i (get_or graph.nodes i d) at (no_node both.0 i (get_or graph.nodes i d) at);
+            let at = slice_get-get_or graph.nodes i d within in
+            keeps_trust graph is i (get_or graph.nodes i d) at (no_node both.0 i (get_or graph.nodes i d) at);
         release = λ i d within. keeps_release graph is (get_or graph.outputs i d) (no_output both.1 i (get_or graph.outputs i d) (slice_get-get_or graph.outputs i d within));
       }
 
