@@ -11,6 +11,8 @@ const WORDS: usize = 0x80_0000;
 
 const ROUNDS: u32 = 5;
 
+const NAMES: [&str; 4] = ["make_tapes", "write_tape", "read_tape", "with_order"];
+
 // The first tape has words alone, the second one order as long as a table can be.
 fn schedule(alloc: Global) -> Result<Schedule, AllocError> {
     let mut first = Needs::new(alloc);
@@ -58,7 +60,7 @@ fn main(rt: HostRuntime) -> io::Result<()> {
         let (_tapes, made) = make(&rt, &orders)?;
         times[3] = times[3].min(made);
     }
-    for (name, took) in ["make", "write", "read", "with_order"].into_iter().zip(times) {
+    for (name, took) in NAMES.into_iter().zip(times) {
         println!(rt; "{name} {took}")?;
     }
     Ok(())
