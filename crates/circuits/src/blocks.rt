@@ -23,8 +23,8 @@ use wires::{Wire, Wires};
 ///
 /// For a sum three blocks become two with the same sum until two are left (after Wallace, 1964): one AND word a lane
 /// for each block but two, and one addition. Otherwise halves of the blocks are folded with each other until one
-/// block is left: the AND words of `combine` a lane for each block but one. Either way the AND calls are as many as
-/// the blocks have levels, and not as many as there are blocks. Own.
+/// block is left: the AND words of `combine` a lane for each block but one. The AND calls go by the levels of the
+/// blocks and not by their number: two for each level and an addition for a sum, else those of `combine`. Own.
 pub fn fold_blocks<W: Wires>(
     wires: &mut W,
     alloc: Global,
