@@ -1,5 +1,5 @@
 -- The words and the order in draws of which it is known what was needed.
-use Rattle.std.proofs.Common.{◌≡◌, ℕ, zero, suc, ◌+◌, ◌*◌, ◌<◌, Option, Some, None, List, [], ◌∷◌, ◌++◌, length, replicate, take, drop, refl, sym, subst, ◌∙◌, ap, arith}
+use Rattle.std.proofs.Common.{◌≡◌, ℕ, zero, suc, ◌+◌, ◌*◌, Option, Some, None, List, [], ◌∷◌, ◌++◌, length, replicate, take, drop, refl, subst, ◌∙◌, ap, arith}
 use Rattle.std.proofs.lemmas.List.{append-nil}
 use Rattle.std.specs.Prelude.{⊤}
 use Rattle.lanes.specs.declared.party.Party.{Party}
@@ -11,7 +11,7 @@ use Rattle.tapes.specs.declared.draw.Need.{Need}
 use Rattle.tapes.specs.declared.draw.Need.TheVariants.{Word as NeedsWord, OrderOf}
 use Rattle.tapes.specs.declared.draw.Draw.{Draw}
 use Rattle.tapes.specs.declared.draw.Draw.TheVariants.{Word, Order}
-use Rattle.tapes.specs.Needs.{Meets, FitsNeeds}
+use Rattle.tapes.specs.Needs.{FitsNeeds}
 use Rattle.tapes.specs.Order.{IsOrder}
 use Rattle.step_lists.specs.declared.step.Step.{Step}
 use Rattle.step_lists.specs.Layout.{Layout}

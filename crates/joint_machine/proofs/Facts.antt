@@ -1,5 +1,5 @@
 -- The laws of the crates below that the lemmas here rest on.
-use Rattle.lanes.specs.Items.{LaneItems, LaneLengths, WordsOfParts, WordsStay}
+use Rattle.lanes.specs.Items.{LaneLengths, WordsOfParts, WordsStay}
 use Rattle.lanes.specs.Laws.{XorCommutes, XorAssociates, MaskComesOff, NotOfOneShare, PickOfXor}
 use Rattle.lanes.specs.SharedAnd.{MaskedAndOfShares, OpenedGoesRound}
 use Rattle.lanes.specs.XorLaws.{XorGoesThrough, XorOfZeros, XorOfParts}

@@ -8,3 +8,6 @@ pub mod MaskedSteps
 pub mod Phasing
 pub mod PhaseSteps
 pub mod SharesOpened
+pub mod AndLanes
+pub mod LinkLists
+pub mod Turning

@@ -1,24 +1,20 @@
 -- The steps And and Share.
-use Rattle.std.proofs.Common.{◌≡◌, ℕ, zero, suc, ◌+◌, ◌-◌, ◌*◌, ◌<◌, ◌≤◌, max, min, Bool, true, false, List, [], ◌∷◌, ◌++◌, length, map, replicate, take, drop, refl, sym, subst, ◌∙◌, ap, arith}
-use Rattle.std.specs.Prelude.{IsTrue, ◌==◌, ◌&&◌, not, nat_lt, nat_le, slice_index, slice_index_or, if◌then◌else◌, bit_and}
-use Rattle.std.specs.List.{AllZip, AllByRecursion, list_all, flat_map}
-use Rattle.std.proofs.lemmas.List.{length-map, length-replicate, length-take-le, length-drop, map-append, append-nil}
+use Rattle.std.proofs.Common.{◌≡◌, ℕ, List, [], ◌++◌, length, replicate, sym, ◌∙◌, arith}
+use Rattle.std.proofs.lemmas.List.{append-nil}
 use Rattle.lanes.specs.declared.party.Party.{Party}
 use Rattle.lanes.specs.declared.party.Party.TheVariants.{First, Second, Third}
-use Rattle.lanes.specs.declared.three.Three.{Three}
-use Rattle.lanes.specs.Party.{next, before}
-use Rattle.lanes.specs.Three.{at, put, opened, each}
+use Rattle.lanes.specs.Party.{next}
+use Rattle.lanes.specs.Three.{at, opened, each}
 use Rattle.lanes.specs.Lanes.{xors, ands, crosses}
-use Rattle.lanes.specs.SharedAnd.{and_share, and_shares, AreMasks}
-use Rattle.tapes.specs.declared.draw.Need.{Need}
+use Rattle.lanes.specs.SharedAnd.{and_shares, AreMasks}
 use Rattle.tapes.specs.declared.draw.Need.TheVariants.{Word as NeedsWord}
 use Rattle.tapes.specs.Needs.{FitsNeeds}
 use Rattle.step_lists.specs.Draws.{ThreeTapes, parties, joined, needs_words, words_in}
 use Rattle.step_lists.specs.Phases.{Shares}
-use Rattle.step_lists.specs.Machine.{dealt, given_share}
+use Rattle.step_lists.specs.Machine.{dealt}
 use Rattle.joint_machine.specs.Opens.{IsLong}
 use Rattle.joint_machine.proofs.Facts.{Facts}
-use Rattle.joint_machine.proofs.Drawn.{words_needed, drawn_words, needed_words, needed_append}
+use Rattle.joint_machine.proofs.Drawn.{words_needed, drawn_words, needed_words}
 use Rattle.joint_machine.proofs.Masking.{given}
 
 pub opened_long : Facts → (n : ℕ) (s : Shares) → IsLong n s → length (opened s) ≡ n

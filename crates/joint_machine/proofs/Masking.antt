@@ -1,9 +1,7 @@
 -- Masks that come off, and what a function of words does to three shares.
-use Rattle.std.proofs.Common.{◌≡◌, ℕ, zero, suc, ◌+◌, ◌*◌, ◌<◌, ◌≤◌, max, List, [], ◌∷◌, ◌++◌, length, replicate, refl, sym, subst, ◌∙◌, ap, arith}
+use Rattle.std.proofs.Common.{◌≡◌, ℕ, ◌≤◌, List, [], ◌∷◌, ◌++◌, length, refl, sym, ◌∙◌, ap, arith}
 use Rattle.std.specs.List.{flat_map}
-use Rattle.lanes.specs.declared.party.Party.{Party}
 use Rattle.lanes.specs.declared.party.Party.TheVariants.{First, Second, Third}
-use Rattle.lanes.specs.declared.three.Three.{Three}
 use Rattle.lanes.specs.Lanes.{xors, lanewise1}
 use Rattle.lanes.specs.XorLaws.{GoesThroughXor}
 use Rattle.lanes.specs.Three.{at, opened}

@@ -1,14 +1,14 @@
 -- The open values fit their layout: registers have their lengths and slots their shapes.
-use Rattle.std.proofs.Common.{◌≡◌, ℕ, zero, suc, ◌+◌, ◌*◌, ◌<◌, ◌≤◌, ◌^◌, max, min, Bool, true, false, List, [], ◌∷◌, ◌++◌, length, map, refl, sym, subst, ◌∙◌, ap, arith}
+use Rattle.std.proofs.Common.{◌≡◌, ℕ, suc, ◌*◌, ◌<◌, ◌^◌, Bool, true, false, List, [], ◌∷◌, ◌++◌, length, map, refl, sym, subst, ◌∙◌, arith}
 use Rattle.std.proofs.lemmas.List.{length-map}
-use Rattle.std.specs.Prelude.{IsTrue, ◌==◌, ◌&&◌, not, nat_lt, nat_le, slice_index, slice_index_or, if◌then◌else◌, bit_and}
+use Rattle.std.specs.Prelude.{IsTrue, ◌==◌, ◌&&◌, not, nat_lt, nat_le, slice_index, if◌then◌else◌, bit_and}
 use Rattle.std.specs.List.{AllZip, AllByRecursion, list_all, flat_map}
 use Rattle.lanes.specs.declared.party.Party.{Party}
 use Rattle.lanes.specs.declared.party.Party.TheVariants.{First, Second, Third}
 use Rattle.lanes.specs.declared.three.Three.{Three}
 use Rattle.lanes.specs.Three.{at, put}
 use Rattle.lanes.specs.Word.{AreWords}
-use Rattle.lanes.specs.Lanes.{ands, picked}
+use Rattle.lanes.specs.Lanes.{ands}
 use Rattle.lanes.specs.Shifts.{shifted_left, shifted_right, spread_word}
 use Rattle.tapes.specs.Order.{applied, IsOrder}
 use Rattle.step_lists.specs.declared.step.Shape.{Shape}
@@ -18,11 +18,11 @@ use Rattle.step_lists.specs.declared.step.Step.TheVariants.{Const, Lin, And, Sha
 use Rattle.step_lists.specs.declared.step.LinOp.{LinOp}
 use Rattle.step_lists.specs.declared.step.LinOp.TheVariants.{Xor, Not, Left, Right, Mask, Spread, Gather}
 use Rattle.step_lists.specs.Layout.{Layout, party_of, grown, length_of, shape_of, count_in, rows_moved, lin_length, with_lengths, with_shapes}
-use Rattle.step_lists.specs.Rules.{is_register, is_slot, is_party, is_order_of, is_empty, is_small, move_together, fits_lin, fits_layout, is_fine, words_of_all}
+use Rattle.step_lists.specs.Rules.{is_register, is_slot, is_party, is_order_of, is_empty, move_together, fits_lin, fits_layout, words_of_all}
 use Rattle.step_lists.specs.Shapes.{HasLength, HasShape, HaveShapes, IsLawful}
 use Rattle.step_lists.specs.Draws.{ThreeTapes, order_in}
 use Rattle.step_lists.specs.Lin.{lin}
-use Rattle.step_lists.specs.Open.{SlotWords, Open, item, register, slot, with_registers, with_slots, more_slots, turned, after_flag, open_step}
+use Rattle.step_lists.specs.Open.{SlotWords, Open, item, register, slot, with_registers, with_slots, more_slots, turned, open_step}
 use Rattle.joint_machine.proofs.Facts.{Facts}
 use Rattle.joint_machine.proofs.Listing.{true_apart, both, below, equal, all_hold, zip_at, zip_append, zip_maps, item_has, all_at, mapped_all}
 use Rattle.joint_machine.proofs.Drawn.{AreDrawsOf, RevealDraws, reveal_draws}

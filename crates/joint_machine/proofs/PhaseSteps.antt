@@ -1,21 +1,17 @@
 -- The steps Reveal and Steer: their phases compose to the orders drawn, and to the private order.
-use Rattle.std.proofs.Common.{◌≡◌, ℕ, zero, suc, ◌+◌, ◌-◌, ◌*◌, ◌<◌, ◌≤◌, max, min, Bool, true, false, List, [], ◌∷◌, ◌++◌, length, map, replicate, take, drop, refl, sym, subst, ◌∙◌, ap, arith}
-use Rattle.std.specs.Prelude.{IsTrue, ◌==◌, ◌&&◌, not, nat_lt, nat_le, slice_index, slice_index_or, if◌then◌else◌, bit_and}
-use Rattle.std.specs.List.{AllZip, AllByRecursion, list_all, flat_map}
+use Rattle.std.proofs.Common.{◌≡◌, ℕ, ◌+◌, ◌*◌, ◌≤◌, List, [], ◌∷◌, length, map, refl, sym, ◌∙◌, ap, arith}
+use Rattle.std.specs.Prelude.{slice_index_or}
+use Rattle.std.specs.List.{AllByRecursion}
 use Rattle.std.proofs.lemmas.List.FromFn.{length-map-range_with_len}
-use Rattle.std.proofs.lemmas.List.{length-map, length-replicate, length-take-le, length-drop, map-append, append-nil}
 use Rattle.lanes.specs.declared.party.Party.{Party}
 use Rattle.lanes.specs.declared.party.Party.TheVariants.{First, Second, Third}
-use Rattle.lanes.specs.declared.three.Three.{Three}
 use Rattle.lanes.specs.Party.{next, before}
-use Rattle.lanes.specs.Three.{at, put, opened, each}
-use Rattle.lanes.specs.Lanes.{picked}
+use Rattle.lanes.specs.Three.{at, opened, each}
 use Rattle.tapes.specs.Order.{IsOrder, applied, composed, inverse_of, identity_of}
 use Rattle.step_lists.specs.Draws.{ThreeTapes, order_in, words_in, nothing}
 use Rattle.step_lists.specs.Open.{turned, item}
-use Rattle.step_lists.specs.Phases.{Shares, Moving, phase}
+use Rattle.step_lists.specs.Phases.{Moving}
 use Rattle.step_lists.specs.Machine.{first_phase, second_phase, third_phase, shown_shares, steer_order, drawn_phase, private_phase}
-use Rattle.joint_machine.specs.Opens.{IsLong}
 use Rattle.joint_machine.proofs.Facts.{Facts}
 use Rattle.joint_machine.proofs.Listing.{same_maps, mapped_twice, item_mapped}
 use Rattle.joint_machine.proofs.Drawn.{RevealDraws, SteerDraws}

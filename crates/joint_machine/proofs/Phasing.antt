@@ -1,13 +1,11 @@
 -- Phases: each applies its order to what the moved shares stand for, and its masks come off.
-use Rattle.std.proofs.Common.{◌≡◌, ℕ, zero, suc, ◌+◌, ◌-◌, ◌*◌, ◌<◌, ◌≤◌, max, min, Bool, true, false, List, [], ◌∷◌, ◌++◌, length, map, replicate, take, drop, refl, sym, subst, ◌∙◌, ap, arith}
-use Rattle.std.specs.Prelude.{IsTrue, ◌==◌, ◌&&◌, not, nat_lt, nat_le, slice_index, slice_index_or, if◌then◌else◌, bit_and}
-use Rattle.std.specs.List.{AllZip, AllByRecursion, list_all, flat_map}
-use Rattle.std.proofs.lemmas.List.{length-map, length-replicate, length-take-le, length-drop, map-append, append-nil}
+use Rattle.std.proofs.Common.{◌≡◌, ℕ, suc, ◌+◌, ◌*◌, ◌≤◌, List, [], ◌∷◌, length, map, take, drop, refl, sym, ◌∙◌, ap, arith}
+use Rattle.std.specs.List.{AllByRecursion}
+use Rattle.std.proofs.lemmas.List.{length-take-le, length-drop}
 use Rattle.lanes.specs.declared.party.Party.{Party}
 use Rattle.lanes.specs.declared.party.Party.TheVariants.{First, Second, Third}
-use Rattle.lanes.specs.declared.three.Three.{Three}
 use Rattle.lanes.specs.Party.{next, before}
-use Rattle.lanes.specs.Three.{at, put, opened, each}
+use Rattle.lanes.specs.Three.{at, opened}
 use Rattle.std.proofs.Math.Nat.{suc-mul}
 use Rattle.lanes.specs.Lanes.{xors, picked}
 use Rattle.tapes.specs.Order.{applied}

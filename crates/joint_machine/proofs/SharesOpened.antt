@@ -1,13 +1,12 @@
 -- The three shares of each register xor to its open value, step by step, and then for whole lists.
-use Rattle.std.proofs.Common.{◌≡◌, ℕ, zero, suc, ◌+◌, ◌*◌, ◌<◌, ◌≤◌, Bool, true, false, List, [], ◌∷◌, ◌++◌, length, map, replicate, refl, sym, subst, ◌∙◌, ap, arith}
-use Rattle.std.specs.Prelude.{IsTrue, ◌==◌, ◌&&◌, not, nat_lt, ◌^◌, slice_index, slice_index_or, if◌then◌else◌}
+use Rattle.std.proofs.Common.{◌≡◌, ℕ, suc, Bool, true, false, List, [], ◌∷◌, ◌++◌, length, map, refl, sym, subst, ◌∙◌, ap, arith}
+use Rattle.std.specs.Prelude.{IsTrue, ◌==◌, ◌&&◌, not, nat_lt, slice_index, if◌then◌else◌}
 use Rattle.std.specs.List.{AllZip, AllByRecursion, list_all}
 use Rattle.std.proofs.lemmas.List.{length-map, map-append}
 use Rattle.lanes.specs.declared.party.Party.{Party}
 use Rattle.lanes.specs.declared.party.Party.TheVariants.{First, Second, Third}
 use Rattle.lanes.specs.declared.three.Three.{Three}
-use Rattle.lanes.specs.Party.{next, before}
-use Rattle.lanes.specs.Three.{at, put, opened, each}
+use Rattle.lanes.specs.Three.{at, opened, each}
 use Rattle.lanes.specs.Word.{AreWords}
 use Rattle.lanes.specs.Lanes.{ands}
 use Rattle.lanes.specs.SharedAnd.{and_shares}
@@ -17,20 +16,20 @@ use Rattle.step_lists.specs.declared.step.Shape.TheVariants as shapes
 use Rattle.step_lists.specs.declared.step.Step.{Step}
 use Rattle.step_lists.specs.declared.step.Step.TheVariants.{Const, Lin, And, Share, Reveal, Steer, Tell, Work, Flag}
 use Rattle.step_lists.specs.declared.step.LinOp.{LinOp}
-use Rattle.step_lists.specs.Layout.{Layout, Steps, party_of, grown, layout_of, starting, length_of, shape_of, count_in, rows_moved, lin_length, with_lengths, with_shapes, words_in_slot}
+use Rattle.step_lists.specs.Layout.{Layout, Steps, party_of, grown, layout_of, starting, length_of, shape_of, count_in, rows_moved, lin_length}
 use Rattle.step_lists.specs.Rules.{IsWellFormed, AreFine, is_register, is_slot, is_party, is_order_of, is_words, is_empty, is_small, move_together, fits_lin, fits_layout}
-use Rattle.step_lists.specs.Shapes.{HasLength, HasShape, HaveShapes, IsLawful}
-use Rattle.step_lists.specs.Draws.{ThreeTapes, parties, nothing, needs, needs_of, order_in, words_in, taken, dropped}
-use Rattle.step_lists.specs.Run.{run, tape_cut, rest_after}
+use Rattle.step_lists.specs.Shapes.{HasShape, HaveShapes, IsLawful}
+use Rattle.step_lists.specs.Draws.{ThreeTapes, parties, nothing, needs, needs_of, words_in, taken, dropped}
+use Rattle.step_lists.specs.Run.{tape_cut, rest_after}
 use Rattle.step_lists.specs.RunLaws.{related}
 use Rattle.step_lists.specs.Lin.{lin}
-use Rattle.step_lists.specs.Open.{SlotWords, Open, item, register, slot, with_registers, with_slots, more_slots, turned, after_flag, open_step, open_going, opening, open_of}
+use Rattle.step_lists.specs.Open.{SlotWords, Open, item, register, slot, with_registers, with_slots, more_slots, turned, open_step, open_going, opening, open_of}
 use Rattle.step_lists.specs.Phases.{Shares, Links, Moving}
-use Rattle.step_lists.specs.Machine.{Machine, shares, slot_of, with_shares, with_more_slots, const_share, dealt, moving, third_phase, private_phase, shown_shares, machine_flag, machine_step, step_words, delivered, before_steps, joint_going, joint_of}
+use Rattle.step_lists.specs.Machine.{Machine, shares, slot_of, with_shares, with_more_slots, const_share, dealt, moving, third_phase, private_phase, shown_shares, machine_step, step_words, delivered, before_steps, joint_going, joint_of}
 use Rattle.step_lists.specs.Possible.{FitsFront, SlotsFit, Fits}
 use Rattle.joint_machine.specs.Opens.{IsLong, Opens, SharesAreOpened, SharesAreLong}
 use Rattle.joint_machine.proofs.Facts.{Facts}
-use Rattle.joint_machine.proofs.Listing.{both, below, equal, all_hold, zip_at, zip_append, item_has, item_mapped, same_maps, mapped_twice, mapped_all}
+use Rattle.joint_machine.proofs.Listing.{both, below, equal, zip_at, zip_append, item_has, item_mapped, same_maps, mapped_twice, mapped_all}
 use Rattle.joint_machine.proofs.Drawn.{AreDrawsOf, reveal_draws, steer_draws, front_fits, rest_fits, at_taken, at_dropped}
 use Rattle.joint_machine.proofs.OpenFits.{OpenFits, IsMoved, register_fits, slot_fits, shaped_words, moved_together, order_shape, step_fits}
 use Rattle.joint_machine.proofs.Masking.{IsEven, long_even}

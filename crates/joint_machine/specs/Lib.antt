@@ -1,1 +1,4 @@
+pub mod Seen
+pub mod Ready
+pub mod Steps
 pub mod Opens
