@@ -1,0 +1,6 @@
+pub mod Elements
+pub mod Rows
+pub mod Padding
+pub mod Moves
+pub mod Zeros
+pub mod Steps
