@@ -11,3 +11,14 @@ pub mod SharesOpened
 pub mod AndLanes
 pub mod LinkLists
 pub mod Turning
+pub mod Cutting
+pub mod Revealing
+pub mod Steering
+pub mod LeftDraws
+pub mod Taking
+pub mod Masks
+pub mod Drawing
+pub mod DrawnSteps
+pub mod Readying
+pub mod Arms
+pub mod Ahead

@@ -278,7 +278,7 @@ module _ {T : Type 0} (accepts : T → List Shape → List Shape → Bool) (answ
     opens : Opens m o
     going : m.stop ≡ false → Kept l m o
 
-  handed : (words : Links) (l : Layout) (m : Machine) (o : Open) → Kept l m o → Kept l (delivered words m) o
+  pub handed : (words : Links) (l : Layout) (m : Machine) (o : Open) → Kept l m o → Kept l (delivered words m) o
   handed words l m o h = record {
     opens = record { registers = h.opens.registers; slots = h.opens.slots; flags = h.opens.flags; stop = h.opens.stop };
     long = h.long;
@@ -350,7 +350,7 @@ module _ {T : Type 0} (accepts : T → List Shape → List Shape → Bool) (answ
       (open_going answer l o s (taken (needs_of l s) j)) (dropped (needs_of l s) j)) h.same
       (beside_same facts law l s ss m o i m.stop refl (record { same = refl; fine = h.fine; fits = h.fits; opens = h.opens; going = h.going }))
 
-  starts_fit : (first : Three (List ℕ)) (slots : SlotWords) → SlotsFit first slots → OpenFits (starting first) (opening slots)
+  pub starts_fit : (first : Three (List ℕ)) (slots : SlotWords) → SlotsFit first slots → OpenFits (starting first) (opening slots)
   starts_fit first slots h = record { registers = tt; slots = slots_of } where
     shapes_of : (ns : List ℕ) (xs : List (List ℕ)) → map length xs ≡ ns → AllByRecursion AreWords xs → HaveShapes (map shapes.Words ns) xs
     shapes_of [] [] e h = tt

@@ -2,3 +2,5 @@ pub mod Seen
 pub mod Ready
 pub mod Steps
 pub mod Opens
+pub mod Left
+pub mod Stepping

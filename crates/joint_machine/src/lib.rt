@@ -2,12 +2,17 @@
 #![tactic(auto)]
 
 mod clear;
+mod draw_steps;
+mod draws;
 mod laws;
 mod links;
 mod local;
 mod machine;
 mod masked;
 mod phases;
+mod reveal;
 mod shown;
+mod steer;
+mod steps;
 
 pub use laws::opened_laws;

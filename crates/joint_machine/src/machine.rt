@@ -2,8 +2,8 @@
 #![tactic(auto)]
 
 ghost use Rattle.std.specs.Prelude.{◌≡◌, ◌<◌, ◌+◌, ◌^◌, [], ◌∷◌, suc, true, map, length, OnOk, if◌then◌else◌};
-ghost use Rattle.lanes.specs.Three.{at};
-ghost use Rattle.step_lists.specs.Machine.{shares, slot_of, with_shares, with_more_slots, delivered};
+ghost use Rattle.lanes.specs.Three.{at, each};
+ghost use Rattle.step_lists.specs.Machine.{before_steps, shares, slot_of, with_shares, with_more_slots, delivered};
 ghost use Rattle.step_lists.specs.Phases.{message};
 ghost use Rattle.step_lists.specs.Shapes.{word_lists};
 ghost use Rattle.joint_machine.specs.Seen.{lists};
@@ -43,6 +43,26 @@ impl Model for Machine {
 }
 
 impl Machine {
+    /// Before the first step, with these first slots.
+    pub(crate) fn new(alloc: Global, slots: Three<Vec<Vec<u64>>>) -> Machine
+        ensures { result ≡ before_steps (each word_lists slots) }
+    {
+        Machine {
+            registers: Vec::new(alloc),
+            slots,
+            links: Links::new(alloc),
+            flags: 0,
+            stop: false,
+        }
+    }
+
+    /// Whether a flag stopped the run.
+    pub(crate) fn is_stopped(&self) -> bool
+        ensures { result ≡ self.now.stop }
+    {
+        self.stop
+    }
+
     pub(crate) fn allocator(&self) -> Global {
         *self.registers.allocator()
     }

@@ -181,8 +181,11 @@ impl Machine {
         requires shares { HaveRows (length order.now) (map lists shares.now) }
         requires mask { length mask.now ≡ length shares.now * length order.now }
         requires other { length other.now ≡ length shares.now * length order.now }
-        ensures { IfOk result (λ made. IsPhase self.old j order.now (map lists shares.now) mask.now other.now (map lists made.items) self.new) }
+        ensures phase { IfOk result (λ made. IsPhase self.old j order.now (map lists shares.now) mask.now other.now (map lists made.items) self.new) }
+        ensures rows { IfOk result (λ made. HaveRows (length order.now) (map lists made.items)) }
+        ensures count { IfOk result (λ made. length made.items ≡ length shares.now) }
     {
+        item_laws();
         let turned = turn(self.allocator(), j, order, shares, mask, other)?;
         self.send(j.before(), j, &turned.there)?;
         self.send(j, j.before(), &turned.back)?;
@@ -213,4 +216,12 @@ fn copy_shares(alloc: Global, shares: &Three<Vec<u64>>) -> Result<Three<Vec<u64>
         second: Vec::from_slice(alloc, &shares.second)?,
         third: Vec::from_slice(alloc, &shares.third)?,
     })
+}
+
+/// What a phase draws: an order, a mask of tape j - 1 and one of tape j + 1.
+#[derive(Clone, Copy, Debug)]
+pub(crate) struct Drawn<'a> {
+    pub(crate) order: &'a Order,
+    pub(crate) mask: &'a [u64],
+    pub(crate) other: &'a [u64],
 }
