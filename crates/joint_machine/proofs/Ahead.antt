@@ -1,5 +1,8 @@
 -- The run in the code beside the run of the definition, by the steps that are still to come.
-use Rattle.std.proofs.Common.{◌≡◌, ℕ, suc, ◌≤◌, Bool, true, false, List, [], ◌∷◌, refl, sym, subst, ◌∙◌, ap, arith}
+use Rattle.std.proofs.Common.{◌≡◌, ℕ, suc, ◌+◌, ◌<◌, ◌≤◌, Bool, true, false, List, [], ◌∷◌, length, drop, get_or, refl, sym, subst, ◌∙◌, ap, arith}
+use Rattle.std.proofs.lemmas.List.{drop_more}
+use Rattle.tapes.specs.declared.draw.Draw.{Draw}
+use Rattle.tapes.specs.declared.draw.Need.{Need}
 use Rattle.std.specs.Prelude.{◌==◌, slice_index, if◌then◌else◌}
 use Rattle.lanes.specs.declared.party.Party.{Party}
 use Rattle.lanes.specs.Three.{at}
@@ -15,7 +18,7 @@ use Rattle.step_lists.specs.Draws.{ThreeTapes, needs, needs_of, taken, dropped}
 use Rattle.step_lists.specs.Run.{run, tape_cut}
 use Rattle.step_lists.specs.Open.{SlotWords, Open, open_step, opening}
 use Rattle.step_lists.specs.Machine.{Machine, slot_of, machine_step, step_words, delivered, before_steps, joint_going, joint_of}
-use Rattle.step_lists.specs.Possible.{SlotsFit, TapesFit}
+use Rattle.step_lists.specs.Possible.{FitsFront, SlotsFit, TapesFit}
 use Rattle.joint_machine.specs.Stepping.{IsReady, IsStepped}
 use Rattle.joint_machine.proofs.Facts.{Facts}
 use Rattle.joint_machine.proofs.Listing.{both}
@@ -134,3 +137,15 @@ module _ {T : Type 0} (accepts : T → List Shape → List Shape → Bool) (answ
 
   pub ahead_end : (whole m : Machine) (x : ThreeTapes) → IsAhead whole [] m x → m ≡ whole
   ahead_end whole m x h = sym h.same
+
+  pub ahead_next : (whole m : Machine) (s : Step T) (steps : List (Step T)) (k : ℕ) (x : ThreeTapes) → k < length steps → s ≡ get_or steps k s
+      → IsAhead whole (drop k steps) m x → IsAhead whole (s ∷ drop (k + 1) steps) m x
+  ahead_next whole m s steps k x lt is h =
+      subst (λ ss. IsAhead whole ss m x) (drop_more steps k s lt ∙ ap (λ t. t ∷ drop (k + 1) steps) (sym is)) h
+
+-- tapes that fit whole have a front that fits
+pub fits_front : (ns : List Need) (ds : List Draw) → FitsNeeds ns ds → FitsFront ns ds
+fits_front [] [] h = tt
+fits_front [] (d ∷ ds) h = absurd h
+fits_front (n ∷ ns) [] h = absurd h
+fits_front (n ∷ ns) (d ∷ ds) h = (h.0, fits_front ns ds h.1)

@@ -8,8 +8,8 @@ use Rattle.tapes.specs.declared.draw.Draw.{Draw}
 use Rattle.tapes.specs.Needs.{FitsNeeds}
 use Rattle.tapes.specs.Reading.{first_words}
 use Rattle.tapes.specs.ReadingLaws.{WordsInBulk}
-use Rattle.joint_machine.specs.Left.{first_order, HasWords, HasOrder, IsNext, Takes}
-use Rattle.joint_machine.proofs.Taking.{words_next, order_next, takes_words, takes_order}
+use Rattle.joint_machine.specs.Left.{first_order, IsNext, Takes}
+use Rattle.joint_machine.proofs.Taking.{words_next, takes_words, takes_order}
 
 -- reads in turn, each from what the one before left
 pub read_words : WordsInBulk → (n : ℕ) (ns : List Need) (ds ds' : List Draw) (ws vs o : List ℕ) (rest : List Draw) → first_words n ds ≡ Some ws → ds' ≡ drop n ds
@@ -22,15 +22,6 @@ read_order n ns ds ds' ws o o' rest e f h = takes_order n ns ds ws o o' rest e (
 
 pub rest_words : WordsInBulk → (n : ℕ) (ns : List Need) (ds ds' : List Draw) → FitsNeeds (replicate n NeedsWord ++ ns) ds → ds' ≡ drop n ds → FitsNeeds ns ds'
 rest_words bulk n ns ds ds' h f = subst (FitsNeeds ns) (sym f) (words_next bulk n ns ds h).rest
-
-pub rest_order : (n : ℕ) (ns : List Need) (ds ds' : List Draw) → FitsNeeds (OrderOf n ∷ ns) ds → ds' ≡ drop 1 ds → FitsNeeds ns ds'
-rest_order n ns ds ds' h f = subst (FitsNeeds ns) (sym f) (order_next n ns ds h).rest
-
-pub has_words : WordsInBulk → (n : ℕ) (ns : List Need) (ds : List Draw) → FitsNeeds (replicate n NeedsWord ++ ns) ds → HasWords n ds
-has_words bulk n ns ds h = (words_next bulk n ns ds h).has
-
-pub has_order : (n : ℕ) (ns : List Need) (ds : List Draw) → FitsNeeds (OrderOf n ∷ ns) ds → HasOrder ds
-has_order n ns ds h = (order_next n ns ds h).has
 
 -- ---- the needs of one tape in plain form
 

@@ -22,3 +22,5 @@ pub mod DrawnSteps
 pub mod Readying
 pub mod Arms
 pub mod Ahead
+pub mod Copies
+pub mod Misfitting

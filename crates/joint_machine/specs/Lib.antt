@@ -4,3 +4,4 @@ pub mod Steps
 pub mod Opens
 pub mod Left
 pub mod Stepping
+pub mod Faults

@@ -4,6 +4,7 @@
 mod clear;
 mod draw_steps;
 mod draws;
+mod joint;
 mod laws;
 mod links;
 mod local;
@@ -11,8 +12,10 @@ mod machine;
 mod masked;
 mod phases;
 mod reveal;
+mod run;
 mod shown;
 mod steer;
 mod steps;
 
+pub use joint::{JointFault, JointRun, joint_run};
 pub use laws::opened_laws;

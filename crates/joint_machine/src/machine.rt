@@ -1,10 +1,12 @@
 //! What three parties have between two steps: shares of registers, slots, and words sent.
 #![tactic(auto)]
 
-ghost use Rattle.std.specs.Prelude.{◌≡◌, ◌<◌, ◌+◌, ◌^◌, [], ◌∷◌, suc, true, map, length, OnOk, if◌then◌else◌};
+ghost use Rattle.std.specs.Prelude.{◌≡◌, ◌<◌, ◌+◌, ◌^◌, [], ◌∷◌, suc, true, map, length, slice_get, OnOk, if◌then◌else◌};
+ghost use Rattle.std.specs.Option.{option_map};
 ghost use Rattle.lanes.specs.Three.{at, each};
 ghost use Rattle.step_lists.specs.Machine.{before_steps, shares, slot_of, with_shares, with_more_slots, delivered};
-ghost use Rattle.step_lists.specs.Phases.{message};
+ghost use Rattle.step_lists.specs.Open.{stopped_at};
+ghost use Rattle.step_lists.specs.Phases.{link, message};
 ghost use Rattle.step_lists.specs.Shapes.{word_lists};
 ghost use Rattle.joint_machine.specs.Seen.{lists};
 
@@ -61,6 +63,27 @@ impl Machine {
         ensures { result ≡ self.now.stop }
     {
         self.stop
+    }
+
+    /// The number of the flag that stopped the run.
+    pub(crate) fn stopped(&self) -> Option<u32>
+        ensures { result ≡ stopped_at self.now.stop self.now.flags }
+    {
+        if self.stop { Some(self.flags) } else { None }
+    }
+
+    /// The words that one party sent to another one.
+    pub(crate) fn sent(&self, source: Party, target: Party) -> &Vec<u64>
+        ensures { result.now.items ≡ link source target self.now.links }
+    {
+        self.links.between(source, target)
+    }
+
+    /// A slot, `None` where it wasn't made.
+    pub(crate) fn find_slot(&self, party: Party, slot: u32) -> Option<&Vec<u64>>
+        ensures { option_map (λ words. words.now.items) result ≡ slice_get (at party self.now.slots) slot }
+    {
+        self.slots.at(party).get(slot as usize)
     }
 
     pub(crate) fn allocator(&self) -> Global {
