@@ -1,4 +1,4 @@
-//! Tests of `padded` through its public calls.
+//! Tests of `padded` and `shared_ops` through their public calls.
 //!
 //! Holds nothing else and promises nothing. A crate with tests is proved a second time with them, so the tests stand
 //! here, above the crates that they test, one file or more for each.
@@ -6,3 +6,5 @@
 
 #[cfg(test)]
 mod padded_tests;
+#[cfg(test)]
+mod shared_ops_tests;

@@ -1,0 +1,4 @@
+pub mod Costs
+pub mod Joint
+pub mod Lanes
+pub mod Wired

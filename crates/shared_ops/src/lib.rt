@@ -1,0 +1,20 @@
+//! The operators of a query on tables of shared words, generic over the words.
+//!
+//! Stands on `wires` and `circuits` (words), `padded` (tables) and `plain_operators` (what an operator means). Each call
+//! makes wires by the trait's calls alone, so it serves every implementation: no step list is needed.
+//! Main promise, one record for all (`Makes`): the wires made, their lanes, the room for rows by the sizes of the
+//! arguments alone, the width; and in each possible environment in which the arguments' valid words are 0 or 1, valid
+//! words of 0 and 1 and valid rows that have the bag of the plain operator on the arguments' valid rows. AND words are
+//! bounded by the sizes.
+#![tactic(auto)]
+
+mod compare;
+mod concat;
+mod filter;
+mod joint;
+mod zeros;
+
+pub use concat::joint_concat;
+pub use filter::filter_by;
+pub use joint::Joint;
+pub use zeros::zeroed;
