@@ -1,12 +1,11 @@
 -- One more row of a table, one more field of a record, and one more record of an answer.
-use Rattle.std.proofs.Common.{◌≡◌, ℕ, zero, suc, ◌+◌, ◌<◌, List, [], ◌∷◌, ◌++◌, Bor, Some, map, take, length, get_or, refl, sym, ap, ◌∙◌, arith, add-one}
+use Rattle.std.proofs.Common.{◌≡◌, ℕ, zero, suc, ◌+◌, ◌<◌, nat_eq, true, List, [], ◌∷◌, ◌++◌, Bor, Some, map, take, length, get_or, refl, sym, ap, ◌∙◌, arith, add-one}
 use Rattle.std.specs.Prelude.{All, slice_get}
+use Rattle.std.proofs.lemmas.Bool.Decides.{nat_tests}
 use Rattle.std.proofs.lemmas.List.{flat_map_more, map_more}
-use Rattle.bags.specs.Sorted.{row_cmp, sorted}
-use Rattle.bags.proofs.Bags.{SameBag-sym}
-use Rattle.bags.proofs.Permutations.{All-SameBag}
-use Rattle.bags.proofs.Rows.{row_order, row_test}
-use Rattle.bags.proofs.Sorting.{SameBag-sorted_by, sorted_by-SameBag}
+use Rattle.std.proofs.lemmas.List.Elements.{All-weaker}
+use Rattle.bags.specs.Sorted.{sorted}
+use Rattle.bags.specs.Laws.{BagsAreEquivalence, BagsKeepRows, SortedIsInOrder, SortedTellsBags}
 use Rattle.csv.specs.Writing.{default_writer, row_text}
 use Rattle.words.specs.Columns.{kinds_of, names_of}
 use Rattle.words.specs.declared.column.Column.{Column}
@@ -34,10 +33,20 @@ rows_text_more columns rows i d below =
     let before = map (λ row. row.now) (take i rows) in
     ap (rows_text columns) (map_more (λ row. row.now) rows i d below) ∙ sym (flat_map_more (record_text columns) (row_text default_writer (names_of columns)) before (get_or rows i d).now)
 
-pub sorted_rectangular : (table : Content) → IsRectangular table → All (λ row. length row ≡ length table.columns) (sorted table.rows)
-sorted_rectangular table = All-SameBag row_test (λ row. length row ≡ length table.columns) (SameBag-sym (SameBag-sorted_by row_cmp table.rows))
+long_passes : (width : ℕ) (row : List ℕ) → length row ≡ width → nat_eq (length row) width ≡ true
+long_passes width row long = grind (arith, nat_tests)
 
-pub answers_of_bags : AnswersOfEqualBags
-answers_of_bags a b same_columns bag =
-    let same_rows : sorted a.rows ≡ sorted b.rows = sorted_by-SameBag row_order row_test bag in
+passes_long : (width : ℕ) (row : List ℕ) → nat_eq (length row) width ≡ true → length row ≡ width
+passes_long width row passes = grind (arith, nat_tests)
+
+pub sorted_rectangular : BagsAreEquivalence → BagsKeepRows → SortedIsInOrder → (table : Content) → IsRectangular table → All (λ row. length row ≡ length table.columns) (sorted table.rows)
+sorted_rectangular bags keep order table wide =
+    let width = length table.columns in
+    let same = bags.back (sorted table.rows) table.rows (order.same_bag table.rows) in
+    let all = All-weaker (λ row. length row ≡ width) (λ row. nat_eq (length row) width ≡ true) (long_passes width) table.rows wide in
+    All-weaker (λ row. nat_eq (length row) width ≡ true) (λ row. length row ≡ width) (passes_long width) (sorted table.rows) (keep.tests (λ row. nat_eq (length row) width) table.rows (sorted table.rows) same all)
+
+pub answers_of_bags : SortedTellsBags → AnswersOfEqualBags
+answers_of_bags tells a b same_columns bag =
+    let same_rows : sorted a.rows ≡ sorted b.rows = (tells a.rows b.rows).0 bag in
     λ i. rows_text (same_columns i) (same_rows i)

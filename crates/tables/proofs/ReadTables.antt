@@ -12,13 +12,13 @@ use Rattle.words.specs.declared.column.Column.{Column}
 use Rattle.words.specs.declared.column.Kind.{Kind}
 use Rattle.words.specs.declared.column.Kind.TheVariants as kinds
 use Rattle.words.specs.declared.num.ValueFault.{ValueFault}
+use Rattle.words.specs.Texts.{TextsAreWords}
 use Rattle.words.specs.declared.num.ValueFault.TheVariants.{NotNumber, TooLarge}
 use Rattle.tables.specs.Content.{Content}
 use Rattle.tables.specs.File as file
 use Rattle.tables.specs.File.{FitsDeclaration, ReadTablesFit, table_in}
 use Rattle.tables.specs.Outcome.{and_then, map_ok}
 use Rattle.tables.specs.declared.fault.TableFault.{TableFault}
-use Rattle.tables.proofs.TextWords.{text_word_below}
 
 count_step : {A : Type 0} (first : Result A TableFault) (others : Result (List A) TableFault) (n : ℕ) (all : List A) → ((more : List A) → others ≡ Ok more → length more ≡ n)
     → and_then first (λ x. map_ok (λ xs. x ∷ xs) others) ≡ Ok all → length all ≡ suc n
@@ -60,10 +60,10 @@ number_below : (bytes : List ℕ) (word : ℕ) → number_of bytes ≡ Ok word �
 unfolding number_of
 number_below bytes word is = fits_step (nat_lt (digits_value 10 bytes) (2 ^ 64)) (digits_value 10 bytes) word refl (number_step (is_decimal bytes) (digits_value 10 bytes) word is)
 
-field_below : (kind : Kind) (bytes : List ℕ) (word : ℕ) → word_of kind bytes ≡ Ok word → word < 2 ^ 64
-field_below kinds.Num bytes word is = number_below bytes word is
-field_below kinds.Text bytes word is = text_word_below bytes word is
-field_below kinds.Flag bytes word is = number_below bytes word is
+field_below : TextsAreWords → (kind : Kind) (bytes : List ℕ) (word : ℕ) → word_of kind bytes ≡ Ok word → word < 2 ^ 64
+field_below texts kinds.Num bytes word is = number_below bytes word is
+field_below texts kinds.Text bytes word is = texts bytes word is
+field_below texts kinds.Flag bytes word is = number_below bytes word is
 
 placed_below : (line column : ℕ) (read : Result ℕ ValueFault) (word : ℕ) → ((w : ℕ) → read ≡ Ok w → w < 2 ^ 64) → file.at_place line column read ≡ Ok word → word < 2 ^ 64
 placed_below line column (Ok w) word below is =
@@ -80,27 +80,27 @@ each_step P (Ok x) (Ok more) all here behind is =
 each_step P (Ok x) (Err fault) all here behind is = cc
 each_step P (Err fault) others all here behind is = cc
 
-words_below : (line column : ℕ) (kinds : List Kind) (fields : List (List ℕ)) (words : List ℕ) → file.words_of line column kinds fields ≡ Ok words → All (λ word. word < 2 ^ 64) words
-words_below line column [] fields words is =
+words_below : TextsAreWords → (line column : ℕ) (kinds : List Kind) (fields : List (List ℕ)) (words : List ℕ) → file.words_of line column kinds fields ≡ Ok words → All (λ word. word < 2 ^ 64) words
+words_below texts line column [] fields words is =
     let same : [] ≡ words = cc in
     subst (All (λ word. word < 2 ^ 64)) same (All-nil (λ word. word < 2 ^ 64))
-words_below line column (kind ∷ kinds) [] words is = cc
-words_below line column (kind ∷ kinds) (field ∷ fields) words is =
+words_below texts line column (kind ∷ kinds) [] words is = cc
+words_below texts line column (kind ∷ kinds) (field ∷ fields) words is =
     each_step (λ word. word < 2 ^ 64) (file.at_place line column (word_of kind field)) (file.words_of line (column + 1) kinds fields) words
-    (λ word read. placed_below line column (word_of kind field) word (field_below kind field) read) (λ more here. words_below line (column + 1) kinds fields more here) is
+    (λ word read. placed_below line column (word_of kind field) word (field_below texts kind field) read) (λ more here. words_below texts line (column + 1) kinds fields more here) is
 
-row_words : (line : ℕ) (kinds : List Kind) (fields : List (List ℕ)) (fits : Bool) (row : List ℕ)
+row_words : TextsAreWords → (line : ℕ) (kinds : List Kind) (fields : List (List ℕ)) (fits : Bool) (row : List ℕ)
     → (if fits then file.words_of line 0 kinds fields else Err (file.fields_fault line)) ≡ Ok row → All (λ word. word < 2 ^ 64) row
-row_words line kinds fields true row is = words_below line 0 kinds fields row is
-row_words line kinds fields false row is = cc
+row_words texts line kinds fields true row is = words_below texts line 0 kinds fields row is
+row_words texts line kinds fields false row is = cc
 
-rows_words : (line : ℕ) (kinds : List Kind) (records : List (List (List ℕ))) (rows : List (List ℕ)) → file.rows_of line kinds records ≡ Ok rows → All (λ row. All (λ word. word < 2 ^ 64) row) rows
-rows_words line kinds [] rows is =
+rows_words : TextsAreWords → (line : ℕ) (kinds : List Kind) (records : List (List (List ℕ))) (rows : List (List ℕ)) → file.rows_of line kinds records ≡ Ok rows → All (λ row. All (λ word. word < 2 ^ 64) row) rows
+rows_words texts line kinds [] rows is =
     let same : [] ≡ rows = cc in
     subst (All (λ row. All (λ word. word < 2 ^ 64) row)) same (All-nil (λ row. All (λ word. word < 2 ^ 64) row))
-rows_words line kinds (first ∷ rest) rows is =
+rows_words texts line kinds (first ∷ rest) rows is =
     each_step (λ row. All (λ word. word < 2 ^ 64) row) (file.row_of line kinds first) (file.rows_of (line + 1) kinds rest) rows
-    (λ row read. row_words line kinds first (length first == length kinds) row read) (λ more here. rows_words (line + 1) kinds rest more here) is
+    (λ row read. row_words texts line kinds first (length first == length kinds) row read) (λ more here. rows_words texts (line + 1) kinds rest more here) is
 
 rows_wide : (line : ℕ) (kinds : List Kind) (records : List (List (List ℕ))) (rows : List (List ℕ)) → file.rows_of line kinds records ≡ Ok rows → All (λ row. length row ≡ length kinds) rows
 rows_wide line kinds [] rows is =
@@ -116,30 +116,30 @@ rows_count line kinds [] rows is =
 rows_count line kinds (first ∷ rest) rows is =
     count_step (file.row_of line kinds first) (file.rows_of (line + 1) kinds rest) (length rest) rows (λ more here. rows_count (line + 1) kinds rest more here) is
 
-under_step : (columns : List Column) (declared : ℕ) (rest : List (List (List ℕ))) (over : Bool) (rows : Result (List (List ℕ)) TableFault) (t : Content) → nat_lt declared (length rest) ≡ over
+under_step : TextsAreWords → (columns : List Column) (declared : ℕ) (rest : List (List (List ℕ))) (over : Bool) (rows : Result (List (List ℕ)) TableFault) (t : Content) → nat_lt declared (length rest) ≡ over
     → file.rows_of 2 (kinds_of columns) rest ≡ rows
     → and_then (if over then Err (file.rows_fault declared (length rest)) else Ok (tt {0})) (λ _. map_ok (λ rows. record { columns = columns; rows = rows }) rows) ≡ Ok t
     → FitsDeclaration columns declared t
-under_step columns declared rest true rows t far read is = cc
-under_step columns declared rest false (Err fault) t far read is = cc
-under_step columns declared rest false (Ok rows) t far read is =
+under_step texts columns declared rest true rows t far read is = cc
+under_step texts columns declared rest false (Err fault) t far read is = cc
+under_step texts columns declared rest false (Ok rows) t far read is =
     let made : Content = record { columns = columns; rows = rows } in
     let same : made ≡ t = cc in
     let few : length rest ≤ declared = grind (arith, common_steps) in
     let wide : All (λ row. length row ≡ length columns) rows =
     subst (λ n. All (λ row. length row ≡ n) rows) (length-map columns (λ (c : Column). c.kind)) (rows_wide 2 (kinds_of columns) rest rows read) in
-    subst (FitsDeclaration columns declared) same (record { same = refl; few = subst (λ n. n ≤ declared) (sym (rows_count 2 (kinds_of columns) rest rows read)) few; wide = wide; words = rows_words 2 (kinds_of columns) rest rows read })
+    subst (FitsDeclaration columns declared) same (record { same = refl; few = subst (λ n. n ≤ declared) (sym (rows_count 2 (kinds_of columns) rest rows read)) few; wide = wide; words = rows_words texts 2 (kinds_of columns) rest rows read })
 
-header_step : (columns : List Column) (declared : ℕ) (rest : List (List (List ℕ))) (named : Bool) (t : Content)
+header_step : TextsAreWords → (columns : List Column) (declared : ℕ) (rest : List (List (List ℕ))) (named : Bool) (t : Content)
     → (if named then file.table_under columns declared rest else Err file.header_fault) ≡ Ok t → FitsDeclaration columns declared t
-header_step columns declared rest false t is = cc
-header_step columns declared rest true t is =
-    under_step columns declared rest (nat_lt declared (length rest)) (file.rows_of 2 (kinds_of columns) rest) t refl refl is
+header_step texts columns declared rest false t is = cc
+header_step texts columns declared rest true t is =
+    under_step texts columns declared rest (nat_lt declared (length rest)) (file.rows_of 2 (kinds_of columns) rest) t refl refl is
 
-records_fit : (columns : List Column) (declared : ℕ) (records : List (List (List ℕ))) (t : Content) → file.table_of columns declared records ≡ Ok t
+records_fit : TextsAreWords → (columns : List Column) (declared : ℕ) (records : List (List (List ℕ))) (t : Content) → file.table_of columns declared records ≡ Ok t
     → FitsDeclaration columns declared t
-records_fit columns declared [] t is = cc
-records_fit columns declared (header ∷ rest) t is = header_step columns declared rest (file.is_header (names_of columns) header) t is
+records_fit texts columns declared [] t is = cc
+records_fit texts columns declared (header ∷ rest) t is = header_step texts columns declared rest (file.is_header (names_of columns) header) t is
 
-pub read_tables_fit : ReadTablesFit
-read_tables_fit columns declared bytes t is = records_fit columns declared _ t is
+pub read_tables_fit : TextsAreWords → ReadTablesFit
+read_tables_fit texts columns declared bytes t is = records_fit texts columns declared _ t is

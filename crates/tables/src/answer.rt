@@ -8,6 +8,7 @@ ghost use Rattle.words.specs.Columns.{names_of, kinds_of};
 ghost use Rattle.tables.specs.Answer.{AnswersOfEqualBags, HasText, answer_of, fields_written_of, rows_text, written};
 
 use crate::Table;
+use bags::laws::{bags_are_equivalence, bags_keep_rows, sorted_is_in_order, sorted_tells_bags};
 use bags::sort_rows;
 use csv::{ByteRecord, Writer};
 use itoa::Buffer;
@@ -23,6 +24,9 @@ use words::{Column, Kind, unpack_text};
 pub fn answer_text(alloc: Global, table: &Table) -> Result<Vec<u8>, AllocError>
     ensures text { IfOk result (λ text. text.items ≡ answer_of table.now) }
 {
+    bags_are_equivalence();
+    bags_keep_rows();
+    sorted_is_in_order();
     let mut rows = table.lent_rows(alloc)?;
     sort_rows(&mut rows);
     write_rows(alloc, table.columns().as_slice(), rows.as_slice())
@@ -31,7 +35,9 @@ pub fn answer_text(alloc: Global, table: &Table) -> Result<Vec<u8>, AllocError>
 /// A law: tables with the same columns and the same bag of rows have the same answer.
 pub fn answers_of_equal_bags()
     ensures { AnswersOfEqualBags }
-{}
+{
+    sorted_tells_bags();
+}
 
 // The header and the rows as they come.
 fn write_rows(alloc: Global, columns: &[Column], rows: &[&[u64]]) -> Result<Vec<u8>, AllocError>

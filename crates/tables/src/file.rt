@@ -12,7 +12,7 @@ use crate::row::{is_header, read_row};
 use crate::{Table, TableFault};
 use csv::{ByteRecord, Reader, ReaderBuilder};
 use std::alloc::Global;
-use words::Column;
+use words::{Column, texts_are_words};
 
 /// The table that a file's bytes are under a declaration of columns, none of them of flags, and of at most so
 /// many rows.
@@ -44,7 +44,9 @@ pub fn read_table(
 #[tactic(auto, using(crate::proofs::ReadTables::read_tables_fit))]
 pub fn read_tables_fit()
     ensures { ReadTablesFit }
-{}
+{
+    texts_are_words();
+}
 
 // A reader of the records of the bytes, of any number of fields and none of them headers.
 fn open(alloc: Global, bytes: &[u8]) -> Reader<&[u8]>

@@ -7,4 +7,4 @@ pub write_rows-requires : goal.write_rows-requires
 write_rows-requires c =
     let rows = ap (map (λ row. row.now)) c.as_slice-2.ensures.value ∙ c.sort_rows.ensures.sorted ∙ ap sorted c.in_ok-rows.ensures.rows in
     let columns = c.as_slice.ensures.value ∙ c.columns.ensures.columns in
-    rw (rows, columns) (sorted_rectangular c.args.table.now c.columns.ensures.rectangular)
+    rw (rows, columns) (sorted_rectangular c.bags_are_equivalence.ensures c.bags_keep_rows.ensures c.sorted_is_in_order.ensures c.args.table.now c.columns.ensures.rectangular)
