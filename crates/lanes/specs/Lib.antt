@@ -16,3 +16,4 @@ pub mod SharedAnd
 pub mod Table
 pub mod Folds
 pub mod Logarithm
+pub mod WordLaws

@@ -6,6 +6,7 @@ ghost use Rattle.lanes.specs.Laws.{XorCommutes, XorAssociates, MaskComesOff, And
 ghost use Rattle.lanes.specs.Logarithm.{IsLeastLog, LogCountsDoublings, LogOfNumbers};
 ghost use Rattle.lanes.specs.SharedAnd.{MaskedAndOfShares, MasksAbsorb, OpenedGoesRound, ThirdMaskIsApart};
 ghost use Rattle.lanes.specs.Table.{PlacesOfTable};
+ghost use Rattle.lanes.specs.WordLaws.{WordsByBits, WordsUnderFlags};
 ghost use Rattle.lanes.specs.XorLaws.{AndsAndNots, PicksOfParts, XorGoesThrough, XorIsLanewise, XorOfParts, XorOfZeros};
 
 /// The laws of lane-wise words: a call does nothing, and its contract states them for all lists.
@@ -71,7 +72,9 @@ pub fn log_laws()
     ensures doublings { LogCountsDoublings }
 {}
 
-/// Three words as two with the same sum.
+/// Three words as two with the same sum; arithmetic, comparison and choice of words by xor, and and shifts.
 pub fn word_laws()
     ensures carry_save { CarrySaveKeepsSum }
+    ensures bits { WordsByBits }
+    ensures flags { WordsUnderFlags }
 {}

@@ -29,9 +29,10 @@ pub record KeepsWires (old new : List ℕ) : Type 0 where
   pub count : length old ≤ length new
   pub lanes : (k : ℕ) → k < length old → slice_index new k ≡ slice_index old k
 
--- a wire has so many words in an environment
+-- a wire has so many words in an environment, fewer than 2 ^ 32
 pub record HasLanes (v : Environment) (wire : Wire) (n : ℕ) : Type 0 where
   pub count : length (words v wire) ≡ n
+  pub few : n < 2 ^ 32
   pub below : AreWords (words v wire)
 
 -- a state has grown from another one; `follows` is the law that growth after growth is growth, at this state

@@ -30,10 +30,11 @@ pub record IsValue (words : List ℕ) : Type 0 where
   pub few : length words < 2 ^ 32
   pub below : AreWords words
 
--- the one environment: each wire has its words
+-- the one environment: each wire has its words, fewer than 2 ^ 32
 pub record IsAssignment (held : Held) (v : Environment) : Type 0 where
   pub same : (k : ℕ) → k < length held.values → v k ≡ slice_index_or held.values k []
   pub below : (k : ℕ) → k < length held.values → AreWords (v k)
+  pub few : (k : ℕ) → k < length held.values → length (v k) < 2 ^ 32
 
 -- later wires stand behind the earlier ones
 pub record Extends (old new : Held) : Type 0 where

@@ -36,13 +36,16 @@ pub extends_possible : (a b : Held) → Extends a b → (v : Environment) → Is
 extends_possible a b h v is = record {
   same = λ k inside. is.same k (omega (arith, h.count)) ∙ h.same k inside;
   below = λ k inside. is.below k (omega (arith, h.count));
+  few = λ k inside. is.few k (omega (arith, h.count));
 }
 
 pub assignment_fits : (a : Held) (v : Environment) (wire : Wire) → IsAssignment a v → IsMade (held_shape a) wire → HasLanes v wire (lanes_of (held_shape a) wire)
 assignment_fits a v wire is made =
     let inside : wire.0 < length a.values = omega (arith, count_held a) in
+    let count : length (v wire.0) ≡ lanes_of (held_shape a) wire = ap length (is.same wire.0 inside) ∙ sym (lanes_held a wire.0) in
     record {
-      count = ap length (is.same wire.0 inside) ∙ sym (lanes_held a wire.0);
+      count = count;
+      few = let few = is.few wire.0 inside in omega arith;
       below = is.below wire.0 inside;
     }
 
@@ -86,7 +89,7 @@ pub spending_carries : (new : Held) (wire : Wire) (n lanes : ℕ) (value : Envir
 spending_carries new wire n lanes value h = record {
   made = h.made;
   lanes = h.lanes;
-  value = λ v is. h.value v (record { same = is.same; below = is.below });
+  value = λ v is. h.value v (record { same = is.same; below = is.below; few = is.few });
 }
 
 -- in the one environment a wire has the words that are held

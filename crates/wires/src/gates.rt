@@ -141,6 +141,6 @@ pub trait Wires {
     ghost grown_keeps: { (a b : Self) → grown a b → KeepsWires (shape a) (shape b) };
     // An environment that is possible after growth was possible before it.
     ghost grown_possible: { (a b : Self) → grown a b → (v : Environment) → possible b v → possible a v };
-    // In a possible environment a wire has a word for each of its lanes.
+    // In a possible environment a wire has a word for each of its lanes, of which there are fewer than 2^32.
     ghost fits: { (s : Self) (v : Environment) (wire : Wire) → possible s v → IsMade (shape s) wire → HasLanes v wire (lanes_of (shape s) wire) };
 }

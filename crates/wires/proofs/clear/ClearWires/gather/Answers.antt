@@ -1,10 +1,10 @@
 use Rattle.std.proofs.Common.{ap, sym, ◌∙◌, arith}
 use Rattle.std.proofs.lemmas.Grind.{common_steps}
 use Rattle.lanes.specs.Lanes.{picked}
-use Rattle.lanes.proofs.LaneLemmas.{picked_more, picked_all}
 use Rattle.wires.specs.Environment.{all_words}
 use Rattle.wires.specs.Held.{values_of}
 use Rattle.wires.specs.HeldLaws.{assignment_values, pushes_carries}
+use Rattle.wires.proofs.LaneLoops.{picked_all, picked_more}
 use Rattle.wires.proofs.clear.ClearWires.gather.Goals as goal
 
 pub loop-place-preserved : goal.loop-place-preserved
