@@ -1,0 +1,5 @@
+pub mod Steps
+pub mod Gates
+pub mod Counts
+pub mod Growing
+pub mod Circuits

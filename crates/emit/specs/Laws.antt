@@ -1,0 +1,35 @@
+-- What a caller knows of a list over which wires were made.
+use Rattle.std.specs.Prelude.{◌≡◌, ℕ, ◌+◌, ◌-◌, ◌^◌, ◌<◌, ◌≤◌, Bool, List}
+use Rattle.wires.specs.declared.wire.Wire.{Wire}
+use Rattle.wires.specs.Environment.{Environment}
+use Rattle.wires.specs.Growth.{Carries, capped}
+use Rattle.step_lists.specs.declared.step.Shape.{Shape}
+use Rattle.step_lists.specs.Layout.{Steps, layout_of}
+use Rattle.step_lists.specs.Draws.{ThreeTapes}
+use Rattle.step_lists.specs.Open.{SlotWords, register, open_of}
+use Rattle.step_lists.specs.Possible.{Possible, ands_in}
+use Rattle.step_lists.specs.Rules.{IsWellFormed}
+use Rattle.emit.specs.Adds.{Adds, is_circuit, wants_nothing}
+use Rattle.emit.specs.Emit.{AreOpenValues, GrowsByCircuit}
+
+-- slots and tapes that fit a well-formed list, and under which it doesn't stop, give an environment: the open values
+abbrev pub EnvironmentsExist : {T : Type 0} → (T → List Shape → List Shape → Bool) → (T → List (List ℕ) → List (List ℕ)) → Type 0
+EnvironmentsExist {T} accepts answer =
+    (list : Steps T) (slots : SlotWords) (ds : ThreeTapes) → IsWellFormed accepts list → Possible answer list slots ds
+    → AreOpenValues answer list (register (open_of answer list slots ds))
+
+-- so what a wire carries is the open value of its register
+abbrev pub CarriedIsOpened : {T : Type 0} → (T → List Shape → List Shape → Bool) → (T → List (List ℕ) → List (List ℕ)) → Type 0
+CarriedIsOpened {T} accepts answer =
+    (list : Steps T) (wire : Wire) (n : ℕ) (value : Environment → List ℕ) → IsWellFormed accepts list
+    → Carries (AreOpenValues answer list) (layout_of list).registers wire n value
+    → (slots : SlotWords) (ds : ThreeTapes) → Possible answer list slots ds
+    → register (open_of answer list slots ds) wire.0 ≡ value (register (open_of answer list slots ds))
+
+-- circuits add constants, linear steps and Ands, and show nothing to anyone; their AND words are those by which the count
+-- rose, where the list's own or the bound on them is below the count's last number
+pub record CircuitsAdd {T : Type 0} (answer : T → List (List ℕ) → List (List ℕ)) : Type 0 where
+  pub counted : (a b : Steps T) (n : ℕ) → GrowsByCircuit a b → capped (ands_in b) ≤ capped (ands_in a) + n → ands_in b < 2 ^ 64
+      → Adds answer (λ (slots : SlotWords). slots) a b is_circuit n wants_nothing
+  pub bounded : (a b : Steps T) (n : ℕ) → GrowsByCircuit a b → capped (ands_in b) ≤ capped (ands_in a) + n → ands_in a + n < 2 ^ 64 - 1
+      → Adds answer (λ (slots : SlotWords). slots) a b is_circuit n wants_nothing

@@ -1,0 +1,6 @@
+pub mod Adds
+pub mod AddsLaws
+pub mod PiecesAddUp
+pub mod Emit
+pub mod EmitLaws
+pub mod Laws

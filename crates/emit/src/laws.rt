@@ -1,0 +1,26 @@
+//! Laws of wires over step lists: a call does nothing, and its contract states the law for all lists over a task.
+#![tactic(auto)]
+
+ghost use Rattle.emit.specs.Laws.{EnvironmentsExist, CarriedIsOpened, CircuitsAdd};
+ghost use Rattle.emit.specs.PiecesAddUp.{PiecesAddUp};
+
+use step_lists::Task;
+use step_lists::laws::values_have_shapes;
+
+/// The open values of a list are an environment of its wires, so what a wire carries is its register's open value.
+pub fn environments_are_open_values<T: Task>()
+    ensures exist { EnvironmentsExist T.accepts T.answer }
+    ensures carried { CarriedIsOpened T.accepts T.answer }
+{
+    values_have_shapes::<T>();
+}
+
+/// What circuits add to a list: steps of three kinds, which show nothing to anyone.
+pub fn circuits_add<T: Task>()
+    ensures { CircuitsAdd T.answer }
+{}
+
+/// What pieces of a list add, one behind the other.
+pub fn pieces_add_up<T: Task>()
+    ensures { PiecesAddUp T.answer }
+{}
