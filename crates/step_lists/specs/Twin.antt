@@ -1,6 +1,6 @@
 -- The twin of a tape: for a viewer, two worlds and three tapes, the tape that the viewer doesn't hold is made anew, step
 -- by step, with the first world under the tapes that are given and the second one under the twin made so far.
-use Rattle.std.specs.Prelude.{ℕ, suc, zero, List, [], ◌∷◌, ◌++◌, length, map, if◌then◌else◌, bit_xor}
+use Rattle.std.specs.Prelude.{ℕ, suc, zero, List, [], ◌∷◌, ◌++◌, length, map, ◌||◌, if◌then◌else◌, bit_xor}
 use Rattle.std.specs.List.{range_with_len}
 use Rattle.bags.specs.Bag.{row_eq}
 use Rattle.lanes.specs.declared.party.Party.{Party}
@@ -157,9 +157,9 @@ twin_draws v l x y (Tell source target s) ds = at (before v) ds
 twin_draws v l x y (Work party task takes gives) ds = at (before v) ds
 twin_draws v l x y (Flag party s) ds = at (before v) ds
 
--- every draw after a stop is kept
+-- every draw after a stop of either world is kept
 abbrev pub twin_going : {T : Type 0} → Party → Layout → Machine → Machine → Step T → ThreeTapes → List Draw
-twin_going v l x y s ds = if x.stop then at (before v) ds else twin_draws v l x y s ds
+twin_going v l x y s ds = if x.stop || y.stop then at (before v) ds else twin_draws v l x y s ds
 
 -- ---- the run
 
