@@ -1,0 +1,4 @@
+pub mod Fits
+pub mod Pairs
+pub mod Alike
+pub mod Apart
