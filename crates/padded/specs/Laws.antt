@@ -1,9 +1,10 @@
 -- What holds of every padded table, each law as one statement.
-use Rattle.std.specs.Prelude.{◌≡◌, ℕ, ◌<◌, ◌≤◌, Bool, false, if◌then◌else◌, List, length, map, slice_index}
+use Rattle.std.specs.Prelude.{◌≡◌, ℕ, ◌*◌, ◌<◌, ◌≤◌, Bool, false, ◌&&◌, if◌then◌else◌, List, length, map, slice_index}
 use Rattle.std.specs.List.{All, filter, flat_map}
 use Rattle.bags.specs.Bag.{SameBag}
 use Rattle.bags.specs.Sorted.{sorted}
 use Rattle.lanes.specs.Lanes.{picked}
+use Rattle.lanes.specs.Table.{table_place}
 use Rattle.lanes.specs.Word.{AreWords}
 use Rattle.tapes.specs.Order.{IsOrder, applied}
 use Rattle.tapes.specs.RowLaws.{columns_applied, row_across}
@@ -55,6 +56,18 @@ RowsOfKept = (test : List ℕ → Bool) (columns : List (List ℕ)) (valid kept 
 -- tables of one width one behind the other
 abbrev pub RowsOfAppended : Type 0
 RowsOfAppended = (width : ℕ) (tables : List Table) → All (IsTable width) tables → rows_of (appended width tables) ≡ flat_map rows_of tables
+
+-- a table with a place for each pair of a left and a right row, where the row of a pair is made of both
+pub record IsTableOfPairs (matches : List ℕ → List ℕ → Bool) (joined : List ℕ → List ℕ → List ℕ) (lefts rights table : Table) : Type 0 where
+  pub count : length table.valid ≡ length lefts.valid * length rights.valid
+  pub live : (i j : ℕ) → i < length lefts.valid → j < length rights.valid → is_live table.valid (table_place (length rights.valid) i j)
+      ≡ (is_live lefts.valid i && (is_live rights.valid j && matches (row_across lefts.columns i) (row_across rights.columns j)))
+  pub row : (i j : ℕ) → i < length lefts.valid → j < length rights.valid → row_across table.columns (table_place (length rights.valid) i j) ≡ joined (row_across lefts.columns i) (row_across rights.columns j)
+
+-- its rows: for each left row, those of it with each right row that matches it
+abbrev pub RowsOfPairs : Type 0
+RowsOfPairs = (matches : List ℕ → List ℕ → Bool) (joined : List ℕ → List ℕ → List ℕ) (lefts rights table : Table) → IsTableOfPairs matches joined lefts rights table
+    → rows_of table ≡ flat_map (λ left. map (joined left) (filter (matches left) (rows_of rights))) (rows_of lefts)
 
 -- zeroed columns have the same rows; and opened with valid words of 0 and 1 they show these with a 1 behind each, and rows of zeros, in some order
 pub record RowsOfZeroed : Type 0 where

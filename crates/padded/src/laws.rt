@@ -1,5 +1,5 @@
 //! Laws of padded tables. Each function computes nothing, and its contract is the law.
-ghost use Rattle.padded.specs.Laws.{OpenedOfBags, PaddedFits, RowsFitTable, RowsOfAppended, RowsOfCut, RowsOfGathered, RowsOfKept, RowsOfMapped, RowsOfOrdered, RowsOfPadded, RowsOfZeroed, ToldOfBags};
+ghost use Rattle.padded.specs.Laws.{OpenedOfBags, PaddedFits, RowsFitTable, RowsOfAppended, RowsOfCut, RowsOfGathered, RowsOfKept, RowsOfMapped, RowsOfOrdered, RowsOfPadded, RowsOfPairs, RowsOfZeroed, ToldOfBags};
 
 /// How many valid rows a table has at most, how wide they are, and that they are of words where the columns are.
 pub fn rows_fit_table()
@@ -49,6 +49,13 @@ pub fn rows_of_kept()
 pub fn rows_of_appended()
     ensures { RowsOfAppended }
 {}
+
+/// A table with a place for each pair of rows has the joined rows of the pairs that match, in nested order.
+pub fn rows_of_pairs()
+    ensures { RowsOfPairs }
+{
+    lanes::table_laws();
+}
 
 /// Zeroed columns have the same rows, and opened they show these and zeros.
 pub fn rows_of_zeroed()
