@@ -61,14 +61,15 @@ zip_at R (x ∷ xs) (y ∷ ys) (suc k) d e h i = zip_at R xs ys k d e h.1 (omega
 
 module _ {T : Type 0} (accepts : T → List Shape → List Shape → Bool) (answer : T → List (List ℕ) → List (List ℕ)) where
   pub environments_exist : ValuesHaveShapes accepts answer → EnvironmentsExist accepts answer
-  environments_exist shaped list slots ds formed p = record {
+  environments_exist shaped list slots ds listed p = record {
     slots = slots;
     tapes = ds;
     possible = p;
     same = λ r i. refl;
-    fits = λ r i. zip_at _ (layout_of list).registers (open_of answer list slots ds).registers r 0 [] (shaped list slots ds formed p).registers i;
+    fits = λ r i. zip_at _ (layout_of list).registers (open_of answer list slots ds).registers r 0 [] (shaped list slots ds listed.well_formed p).registers i;
+    few = λ r i. listed.short r 0 i;
   }
 
   pub carried_is_opened : ValuesHaveShapes accepts answer → CarriedIsOpened accepts answer
-  carried_is_opened shaped list wire n value formed h slots ds p =
-      h.value (register (open_of answer list slots ds)) (environments_exist shaped list slots ds formed p)
+  carried_is_opened shaped list wire n value listed h slots ds p =
+      h.value (register (open_of answer list slots ds)) (environments_exist shaped list slots ds listed p)

@@ -1,5 +1,5 @@
 -- Wires over a step list: wire i is register i.
-use Rattle.std.specs.Prelude.{◌≡◌, ℕ, ◌<◌, Bool, true, false, List, [], ◌∷◌, length}
+use Rattle.std.specs.Prelude.{◌≡◌, ℕ, ◌^◌, ◌<◌, Bool, true, false, List, [], ◌∷◌, length}
 use Rattle.std.specs.Prelude.{count_by}
 use Rattle.wires.specs.Environment.{Environment}
 use Rattle.wires.specs.declared.wire.Wire.{Wire}
@@ -13,13 +13,14 @@ use Rattle.step_lists.specs.Possible.{Possible, StandsIn, behind}
 use Rattle.emit.specs.Adds.{AllMay, is_circuit}
 
 -- each wire has its register's open value, under some slots and tapes that fit and under which the list doesn't stop;
--- it has the register's length, and its words are below 2 ^ 64
+-- it has the register's length, which is below 2 ^ 32, and its words are below 2 ^ 64
 pub record AreOpenValues {T : Type 0} (answer : T → List (List ℕ) → List (List ℕ)) (list : Steps T) (v : Environment) : Type 0 where
   pub slots : SlotWords
   pub tapes : ThreeTapes
   pub possible : Possible answer list slots tapes
   pub same : (r : ℕ) → r < length (layout_of list).registers → v r ≡ register (open_of answer list slots tapes) r
   pub fits : (r : ℕ) → r < length (layout_of list).registers → HasLength (length_of (layout_of list) r) (v r)
+  pub few : (r : ℕ) → r < length (layout_of list).registers → length_of (layout_of list) r < 2 ^ 32
 
 -- the first list begins the second, and each further step is one of a circuit
 pub record GrowsByCircuit {T : Type 0} (a b : Steps T) : Type 0 where

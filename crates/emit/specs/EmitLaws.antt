@@ -1,5 +1,5 @@
 -- The laws of growth of wires over a step list.
-use Rattle.std.proofs.Common.{ℕ, ◌<◌, List, length, ◌∙◌, subst, arith}
+use Rattle.std.proofs.Common.{ℕ, ◌^◌, ◌<◌, List, length, ◌∙◌, subst, arith}
 use Rattle.wires.specs.declared.wire.Wire.{Wire}
 use Rattle.wires.specs.Environment.{Environment}
 use Rattle.wires.specs.Growth.{HasLanes, IsMade, KeepsWires, lanes_of}
@@ -30,8 +30,9 @@ module _ {T : Type 0} (answer : T → List (List ℕ) → List (List ℕ)) where
         possible = possible_prefix answer a b o.slots o.tapes h.front o.possible;
         same = λ r i. o.same r (early r i) ∙ register_prefix answer a b o.slots o.tapes h.front o.possible r i;
         fits = λ r i. subst (λ n. HasLength n (v r)) (g.registers r i) (o.fits r (early r i));
+        few = λ r i. subst (λ n. n < 2 ^ 32) (g.registers r i) (o.few r (early r i));
       }
 
   pub open_fits : (a : Steps T) (v : Environment) (wire : Wire) → AreOpenValues answer a v → IsMade (layout_of a).registers wire
       → HasLanes v wire (lanes_of (layout_of a).registers wire)
-  open_fits a v wire o made = let h = o.fits wire.0 made in record { count = h.long; below = h.below }
+  open_fits a v wire o made = let h = o.fits wire.0 made in record { count = h.long; few = o.few wire.0 made; below = h.below }

@@ -1,5 +1,5 @@
 -- What a caller knows of a list over which wires were made.
-use Rattle.std.specs.Prelude.{◌≡◌, ℕ, ◌+◌, ◌-◌, ◌^◌, ◌<◌, ◌≤◌, Bool, List}
+use Rattle.std.specs.Prelude.{◌≡◌, All, ℕ, ◌+◌, ◌-◌, ◌^◌, ◌<◌, ◌≤◌, Bool, List}
 use Rattle.wires.specs.declared.wire.Wire.{Wire}
 use Rattle.wires.specs.Environment.{Environment}
 use Rattle.wires.specs.Growth.{Carries, capped}
@@ -12,16 +12,21 @@ use Rattle.step_lists.specs.Rules.{IsWellFormed}
 use Rattle.emit.specs.Adds.{Adds, is_circuit, wants_nothing}
 use Rattle.emit.specs.Emit.{AreOpenValues, GrowsByCircuit}
 
--- slots and tapes that fit a well-formed list, and under which it doesn't stop, give an environment: the open values
+-- a well-formed list of registers that are shorter than 2 ^ 32 words, as every list is that a `StepList` holds
+pub record IsListed {T : Type 0} (accepts : T → List Shape → List Shape → Bool) (list : Steps T) : Type 0 where
+  pub well_formed : IsWellFormed accepts list
+  pub short : All (λ n. n < 2 ^ 32) (layout_of list).registers
+
+-- slots and tapes that fit such a list, and under which it doesn't stop, give an environment: the open values
 abbrev pub EnvironmentsExist : {T : Type 0} → (T → List Shape → List Shape → Bool) → (T → List (List ℕ) → List (List ℕ)) → Type 0
 EnvironmentsExist {T} accepts answer =
-    (list : Steps T) (slots : SlotWords) (ds : ThreeTapes) → IsWellFormed accepts list → Possible answer list slots ds
+    (list : Steps T) (slots : SlotWords) (ds : ThreeTapes) → IsListed accepts list → Possible answer list slots ds
     → AreOpenValues answer list (register (open_of answer list slots ds))
 
 -- so what a wire carries is the open value of its register
 abbrev pub CarriedIsOpened : {T : Type 0} → (T → List Shape → List Shape → Bool) → (T → List (List ℕ) → List (List ℕ)) → Type 0
 CarriedIsOpened {T} accepts answer =
-    (list : Steps T) (wire : Wire) (n : ℕ) (value : Environment → List ℕ) → IsWellFormed accepts list
+    (list : Steps T) (wire : Wire) (n : ℕ) (value : Environment → List ℕ) → IsListed accepts list
     → Carries (AreOpenValues answer list) (layout_of list).registers wire n value
     → (slots : SlotWords) (ds : ThreeTapes) → Possible answer list slots ds
     → register (open_of answer list slots ds) wire.0 ≡ value (register (open_of answer list slots ds))

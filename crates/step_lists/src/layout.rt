@@ -1,7 +1,7 @@
 //! The lengths of registers and the shapes of slots that a list of steps has made so far.
 #![tactic(auto)]
 
-ghost use Rattle.std.specs.Prelude.{◌≡◌, ◌<◌, ◌^◌, ◌+◌, ◌++◌, length, replicate, IsTrue, slice_get, is_ok, nat_lt, if◌then◌else◌};
+ghost use Rattle.std.specs.Prelude.{◌≡◌, All, ◌<◌, ◌^◌, ◌+◌, ◌++◌, length, replicate, IsTrue, slice_get, is_ok, nat_lt, if◌then◌else◌};
 ghost use Rattle.lanes.specs.Three.{at};
 ghost use Rattle.step_lists.specs.Layout.{party_of, starting, length_of, shape_of, count_in, lin_length, rows_moved, grown, with_lengths, with_shapes};
 ghost use Rattle.step_lists.specs.Laid.{IsGrown, revealed};
@@ -55,6 +55,11 @@ pub(crate) fn is_party(number: u8) -> bool
     1 <= number && number <= 3
 }
 
+// A length is below 2^32 by its type.
+fn are_short(lengths: &[u32])
+    ensures { All (λ n. n < 2 ^ 32) lengths.now }
+{}
+
 impl Layout {
     /// Before the first step, over first slots of these lengths.
     pub(crate) fn new(alloc: Global, first: Vec<u32>, second: Vec<u32>, third: Vec<u32>) -> Layout
@@ -89,8 +94,10 @@ impl Layout {
 
     /// How many registers there are.
     pub(crate) fn registers(&self) -> u32
-        ensures { result ≡ length self.now.now.registers }
+        ensures count { result ≡ length self.now.now.registers }
+        ensures short { All (λ n. n < 2 ^ 32) self.now.now.registers }
     {
+        are_short(&self.registers);
         self.registers.len() as u32
     }
 

@@ -1,7 +1,7 @@
 //! Lists of steps.
 #![tactic(auto)]
 
-ghost use Rattle.std.specs.Prelude.{◌≡◌, ◌<◌, ◌^◌, [], ◌∷◌, length, IsTrue, IfOk, IfErr, OnOk};
+ghost use Rattle.std.specs.Prelude.{◌≡◌, All, ◌<◌, ◌^◌, [], ◌∷◌, length, IsTrue, IfOk, IfErr, OnOk};
 ghost use Rattle.lanes.specs.Three.{at};
 ghost use Rattle.step_lists.specs.Layout.{party_of, layout_of, length_of, shape_of};
 ghost use Rattle.step_lists.specs.Possible.{behind};
@@ -118,9 +118,10 @@ impl<T: Task> StepList<T> {
         &self.layout
     }
 
-    /// How many registers there are.
+    /// How many registers there are; each is shorter than 2^32 words.
     pub fn registers(&self) -> u32
-        ensures { result ≡ length (layout_of self.now).registers }
+        ensures count { result ≡ length (layout_of self.now).registers }
+        ensures short { All (λ n. n < 2 ^ 32) (layout_of self.now).registers }
     {
         self.layout.registers()
     }
