@@ -1,5 +1,5 @@
 use crate::query_text_tests::QUERY;
-use query_text::{ReadFault, print_query, read_query};
+use query_text::{Query, ReadFault, print_query, read_query};
 use rand::rngs::StdRng;
 use rand::{RngExt, SeedableRng};
 use std::alloc::{AllocError, Global};
@@ -11,96 +11,124 @@ fn reprinted(alloc: Global, text: &[u8]) -> Result<Vec<u8>, ReadFault> {
     Ok(print_query(alloc, &query)?)
 }
 
+// Texts, each with its one spelling.
+const SPELLINGS: &[(&[u8], &[u8])] = &[
+    (b"", b""),
+    (b"\n \t\n# nothing\r\n", b""),
+    (b"output n to 1", b"output n to 1\n"),
+    (
+        b"\toutput  n\tto 01 2   003 # all\r\n",
+        b"output n to 1 2 3\n",
+    ),
+    (
+        b"\n\noutput b to 2\n#\noutput a to 1",
+        b"output b to 2\noutput a to 1\n",
+    ),
+    (
+        b"relation r of 2 rows 0007(x num,y text)",
+        b"relation r of 2 rows 7 (x num, y text)\n",
+    ),
+    (
+        b"relation r of 1 rows 18446744073709551615( x num trust 1 02 3 , y text trust 2 )release 1 3",
+        b"relation r of 1 rows 18446744073709551615 (x num trust 1 2 3, y text trust 2) release 1 3\n",
+    ),
+    (b"f=filter r where x==00", b"f = filter r where x == 0\n"),
+    (
+        b"f=filter r where 10<=x and y!=\"a # b\"and true==false",
+        b"f = filter r where 10 <= x and y != \"a # b\" and true == false\n",
+    ),
+    (
+        b"f=filter r where x<y and x>y and x>=\"\"at most 05 clear at 2",
+        b"f = filter r where x < y and x > y and x >= \"\" at most 5 clear at 2\n",
+    ),
+    (
+        b"f=filter r where x<y clear at 3",
+        b"f = filter r where x < y clear at 3\n",
+    ),
+    (b"s=select r(x)", b"s = select r (x)\n"),
+    (
+        b"s=select r(x,y=x,z=x*03,w=x+y,v=x-y,u=f&g,t=f|g,q=x<=y)clear at 3",
+        b"s = select r (x, y = x, z = x * 3, w = x + y, v = x - y, u = f & g, t = f | g, q = x <= y) clear at 3\n",
+    ),
+    (b"c=concat r r", b"c = concat r r\n"),
+    (b"c=concat a b c d e f g h", b"c = concat a b c d e f g h\n"),
+    (b"j=join a b on x", b"j = join a b on x\n"),
+    (
+        b"j=join a b on x,y at most 6 via 1",
+        b"j = join a b on x, y at most 6 via 1\n",
+    ),
+    (
+        b"j=join a b on x clear at 2",
+        b"j = join a b on x clear at 2\n",
+    ),
+    (b"g=group a(n=count)", b"g = group a (n = count)\n"),
+    (
+        b"g=group a by x,y(n=count,s=sum z,l=least z,m=greatest z)parts at most 4 at most 5 via 2",
+        b"g = group a by x, y (n = count, s = sum z, l = least z, m = greatest z) parts at most 4 at most 5 via 2\n",
+    ),
+    (
+        b"g=group a by x(n=count)at most 5 clear at 1",
+        b"g = group a by x (n = count) at most 5 clear at 1\n",
+    ),
+    (
+        b"d=distinct a at most 50 clear at 1",
+        b"d = distinct a at most 50 clear at 1\n",
+    ),
+];
+
+// The first of the texts that is printed in another way.
+fn first_other(alloc: Global, spellings: &[(&[u8], &[u8])]) -> Result<Option<usize>, ReadFault> {
+    for (index, (text, spelling)) in spellings.iter().enumerate() {
+        if reprinted(alloc, text)?.as_slice() != *spelling {
+            return Ok(Some(index));
+        }
+    }
+    Ok(None)
+}
+
 #[test]
 fn each_form_has_one_spelling(rt: HostRuntime) -> Result<(), Fail> {
-    let spellings: [(&[u8], &[u8]); 22] = [
-        (b"", b""),
-        (b"\n \t\n# nothing\r\n", b""),
-        (b"output n to 1", b"output n to 1\n"),
-        (
-            b"\toutput  n\tto 01 2   003 # all\r\n",
-            b"output n to 1 2 3\n",
-        ),
-        (
-            b"\n\noutput b to 2\n#\noutput a to 1",
-            b"output b to 2\noutput a to 1\n",
-        ),
-        (
-            b"relation r of 2 rows 0007(x num,y text)",
-            b"relation r of 2 rows 7 (x num, y text)\n",
-        ),
-        (
-            b"relation r of 1 rows 18446744073709551615( x num trust 1 02 3 , y text trust 2 )release 1 3",
-            b"relation r of 1 rows 18446744073709551615 (x num trust 1 2 3, y text trust 2) release 1 3\n",
-        ),
-        (b"f=filter r where x==00", b"f = filter r where x == 0\n"),
-        (
-            b"f=filter r where 10<=x and y!=\"a # b\"and true==false",
-            b"f = filter r where 10 <= x and y != \"a # b\" and true == false\n",
-        ),
-        (
-            b"f=filter r where x<y and x>y and x>=\"\"at most 05 clear at 2",
-            b"f = filter r where x < y and x > y and x >= \"\" at most 5 clear at 2\n",
-        ),
-        (
-            b"f=filter r where x<y clear at 3",
-            b"f = filter r where x < y clear at 3\n",
-        ),
-        (b"s=select r(x)", b"s = select r (x)\n"),
-        (
-            b"s=select r(x,y=x,z=x*03,w=x+y,v=x-y,u=f&g,t=f|g,q=x<=y)clear at 3",
-            b"s = select r (x, y = x, z = x * 3, w = x + y, v = x - y, u = f & g, t = f | g, q = x <= y) clear at 3\n",
-        ),
-        (b"c=concat r r", b"c = concat r r\n"),
-        (b"c=concat a b c d e f g h", b"c = concat a b c d e f g h\n"),
-        (b"j=join a b on x", b"j = join a b on x\n"),
-        (
-            b"j=join a b on x,y at most 6 via 1",
-            b"j = join a b on x, y at most 6 via 1\n",
-        ),
-        (
-            b"j=join a b on x clear at 2",
-            b"j = join a b on x clear at 2\n",
-        ),
-        (b"g=group a(n=count)", b"g = group a (n = count)\n"),
-        (
-            b"g=group a by x,y(n=count,s=sum z,l=least z,m=greatest z)parts at most 4 at most 5 via 2",
-            b"g = group a by x, y (n = count, s = sum z, l = least z, m = greatest z) parts at most 4 at most 5 via 2\n",
-        ),
-        (
-            b"g=group a by x(n=count)at most 5 clear at 1",
-            b"g = group a by x (n = count) at most 5 clear at 1\n",
-        ),
-        (
-            b"d=distinct a at most 50 clear at 1",
-            b"d = distinct a at most 50 clear at 1\n",
-        ),
-    ];
-    for (text, spelling) in spellings {
-        assert_eq!(rt;
-            reprinted(rt.alloc(), text)?.as_slice(),
-            spelling,
-            "{text:?}"
-        );
-    }
+    assert_eq!(rt; first_other(rt.alloc(), SPELLINGS)?, None);
     Ok(())
+}
+
+// Whether the query of a text has so many statements, and is printed as one with the same statements, line after line.
+fn is_read_back(alloc: Global, text: &[u8], count: usize) -> Result<bool, ReadFault> {
+    let query = read_query(alloc, text)?;
+    let spelling = print_query(alloc, &query)?;
+    let again = read_query(alloc, &spelling)?;
+    Ok(query.statements.len() == count && are_same(&again, &query))
+}
+
+// Whether two queries have the same statements, the first one on a line for each.
+fn are_same(new: &Query, old: &Query) -> bool {
+    if new.statements.len() != old.statements.len() {
+        return false;
+    }
+    let pairs = new
+        .statements
+        .as_slice()
+        .iter()
+        .zip(old.statements.as_slice());
+    for (place, (new, old)) in pairs.enumerate() {
+        if new.line as usize != place + 1 || new.body != old.body {
+            return false;
+        }
+    }
+    true
 }
 
 #[test]
 fn a_printed_query_is_read_back(rt: HostRuntime) -> Result<(), Fail> {
     let alloc = rt.alloc();
-    let query = read_query(alloc, QUERY)?;
-    let text = print_query(alloc, &query)?;
-    assert_eq!(rt; text.as_slice(), QUERY);
-    let again = read_query(alloc, &text)?;
-    assert_eq!(rt; again.statements.len(), 7);
-    assert_eq!(rt; again.statements.as_slice(), query.statements.as_slice());
+    assert_eq!(rt; reprinted(alloc, QUERY)?.as_slice(), QUERY);
+    assert!(rt; is_read_back(alloc, QUERY, 7)?);
     Ok(())
 }
 
 // The forms of statements: a part in brackets may be left out, and capital letters stand for words
 // of a kind.
-const FORMS: [&[u8]; 8] = [
+const FORMS: &[&[u8]] = &[
     b"relation N of P rows K ( N T [ trust S ] [ , N T [ trust S ] [ , N T ] ] ) [ release S ]",
     b"N = filter N where X C X [ and X C X [ and X C X ] ] [ at most K ] [ clear at P ]",
     b"N = select N ( N [ = X [ O X ] ] [ , N [ = X [ O X ] ] [ , N ] ] ) [ clear at P ]",
@@ -172,29 +200,22 @@ fn add_statement(random: &mut StdRng, text: &mut Vec<u8>, form: &[u8]) -> Result
     text.extend_from_slice(one_of(random, &[b"\n", b"\r\n", b"# \"\r\n", b"\n\n#\n"]))
 }
 
+// A random text with two statements of each form.
+fn random_text(alloc: Global, random: &mut StdRng) -> Result<Vec<u8>, AllocError> {
+    let mut text = Vec::new(alloc);
+    for form in FORMS {
+        add_statement(random, &mut text, form)?;
+        add_statement(random, &mut text, form)?;
+    }
+    Ok(text)
+}
+
 #[test]
 fn random_queries_are_read_back(rt: HostRuntime) -> Result<(), Fail> {
-    let alloc = rt.alloc();
     let mut random = StdRng::seed_from_u64(11);
     for _query in 0..25 {
-        let mut text = Vec::new(alloc);
-        for form in FORMS.iter().chain(&FORMS) {
-            add_statement(&mut random, &mut text, form)?;
-        }
-        let query = read_query(alloc, &text)?;
-        assert_eq!(rt; query.statements.len(), 16);
-        let spelling = print_query(alloc, &query)?;
-        let again = read_query(alloc, &spelling)?;
-        assert_eq!(rt; again.statements.len(), 16);
-        let pairs = again
-            .statements
-            .as_slice()
-            .iter()
-            .zip(query.statements.as_slice());
-        for (place, (new, old)) in pairs.enumerate() {
-            assert_eq!(rt; new.line as usize, place + 1);
-            assert_eq!(rt; new.body, old.body, "{text:?}");
-        }
+        let text = random_text(rt.alloc(), &mut random)?;
+        assert!(rt; is_read_back(rt.alloc(), &text, 16)?, "{text:?}");
     }
     Ok(())
 }
@@ -209,20 +230,21 @@ fn add_select(text: &mut Vec<u8>, count: usize) -> Result<(), AllocError> {
 }
 
 // 64 lines of 1,024 bytes, each of which is printed as 1,532 bytes.
-#[test]
-fn the_largest_text_is_read_and_printed(rt: HostRuntime) -> Result<(), Fail> {
-    let alloc = rt.alloc();
+fn largest_text(alloc: Global) -> Result<Vec<u8>, AllocError> {
     let mut text = Vec::new(alloc);
     for _statement in 0..64 {
         add_select(&mut text, 506)?;
     }
+    Ok(text)
+}
+
+#[test]
+fn the_largest_text_is_read_and_printed(rt: HostRuntime) -> Result<(), Fail> {
+    let text = largest_text(rt.alloc())?;
     assert_eq!(rt; text.len(), 65536);
-    let query = read_query(alloc, &text)?;
-    let spelling = print_query(alloc, &query)?;
+    let spelling = reprinted(rt.alloc(), &text)?;
     assert_eq!(rt; spelling.len(), 98048);
-    match read_query(alloc, &spelling) {
-        Err(fault) => assert_eq!(rt; fault, ReadFault::Text { line: 0, column: 0 }),
-        Ok(_query) => assert!(rt; false, "a text that is too long"),
-    }
+    let fault = read_query(rt.alloc(), &spelling).err();
+    assert_eq!(rt; fault, Some(ReadFault::Text { line: 0, column: 0 }));
     Ok(())
 }
