@@ -1,15 +1,12 @@
 ghost use Rattle.std.specs.Prelude.{◌≡◌, ◌*◌, ◌<◌, ◌^◌, length};
 
-use crate::circuits_run_tests::folded;
+use crate::each_circuit::{folded, neutral};
 use circuits::{Fold, fold_blocks};
 use rand::rngs::StdRng;
 use rand::{RngExt, SeedableRng};
 use std::alloc::{AllocError, Global};
 use std::test::Fail;
 use wires::{Clear, Tally, Wires};
-
-// The folds, and the AND words a lane of each for a block more than two.
-const FOLDS: [(Fold, u64); 3] = [(Fold::Sum, 1), (Fold::Least, 8), (Fold::Greatest, 8)];
 
 // Numbers of blocks, and lanes of each.
 const SIZES: [(usize, usize); 8] = [
@@ -45,12 +42,7 @@ fn value_of(
 fn expected(fold: Fold, words: &[u64], width: usize, lane: usize) -> u64
     requires { 0 < width }
 {
-    let mut all = match fold {
-        Fold::Sum => 0,
-        Fold::Least => u64::MAX,
-        Fold::Greatest => 0,
-        Fold::Any => 0,
-    };
+    let mut all = neutral(fold);
     for (at, word) in words.iter().enumerate() {
         if at % width == lane {
             all = folded(fold, all, *word);
@@ -59,28 +51,60 @@ fn expected(fold: Fold, words: &[u64], width: usize, lane: usize) -> u64
     all
 }
 
+// Whether the words are those that Rust computes in each lane.
+fn are_expected(fold: Fold, words: &[u64], width: usize, found: &[u64]) -> bool
+    requires { 0 < width }
+{
+    for (lane, word) in found.iter().enumerate() {
+        if *word != expected(fold, words, width, lane) {
+            return false;
+        }
+    }
+    found.len() == width
+}
+
+fn random_words(alloc: Global, seed: u64, count: usize) -> Result<Vec<u64>, AllocError> {
+    let mut random = StdRng::seed_from_u64(seed);
+    let mut words = Vec::new(alloc);
+    for _ in 0..count {
+        words.push(random.random())?;
+    }
+    Ok(words)
+}
+
+// Whether the fold of so many random blocks is what Rust computes; no more than 16 lanes are folded.
+fn folds_blocks(alloc: Global, fold: Fold, count: usize, width: usize) -> Result<bool, AllocError> {
+    if count == 0 || width == 0 || count > 5 || width > 3 {
+        return Ok(false);
+    }
+    let lanes = count * width;
+    let words = random_words(alloc, 13 + lanes as u64, lanes)?;
+    if words.len() != lanes || lanes > 16 {
+        return Ok(false);
+    }
+    let value = value_of(alloc, fold, words.as_slice(), count, width)?;
+    Ok(are_expected(fold, words.as_slice(), width, value.as_slice()))
+}
+
+// The first of the sizes at which a fold isn't what Rust computes.
+fn first_wrong(
+    alloc: Global,
+    fold: Fold,
+    sizes: &[(usize, usize)],
+) -> Result<Option<(usize, usize)>, AllocError> {
+    for (count, width) in sizes {
+        if !folds_blocks(alloc, fold, *count, *width)? {
+            return Ok(Some((*count, *width)));
+        }
+    }
+    Ok(None)
+}
+
 #[test]
 fn blocks_are_folded_lane_by_lane(rt: HostRuntime) -> Result<(), Fail> {
-    let mut random = StdRng::seed_from_u64(13);
-    for (fold, _) in FOLDS {
-        for (count, width) in SIZES {
-            let lanes = count.checked_mul(width).ok_or("too many lanes")?;
-            let mut words = Vec::new(rt.alloc());
-            for _ in 0..lanes {
-                words.push(random.random())?;
-            }
-            assert!(rt; words.len() == lanes && lanes < 16 && count > 0 && width > 0);
-            let value = value_of(rt.alloc(), fold, words.as_slice(), count, width)?;
-            assert_eq!(rt; value.len(), width);
-            for lane in 0..width {
-                let want = expected(fold, words.as_slice(), width, lane);
-                assert_eq!(rt;
-                    value[lane],
-                    want,
-                    "{fold:?} of {count} blocks, lane {lane}"
-                );
-            }
-        }
+    for fold in [Fold::Sum, Fold::Least, Fold::Greatest, Fold::Any] {
+        let wrong = first_wrong(rt.alloc(), fold, &SIZES)?;
+        assert!(rt; wrong.is_none(), "{fold:?} of {wrong:?}");
     }
     Ok(())
 }
@@ -103,26 +127,46 @@ fn cost_of(
     Ok(wires.and_words())
 }
 
+// Whether a fold takes so many AND words a lane for each block behind the first, and a sum of some an addition more.
+fn costs(
+    alloc: Global,
+    fold: Fold,
+    words: u64,
+    count: usize,
+    width: usize,
+) -> Result<bool, AllocError> {
+    if count == 0 || width == 0 || count > 5 || width > 3 {
+        return Ok(false);
+    }
+    let zeros = vec![in alloc; 0; count * width]?;
+    let addition = if fold == Fold::Sum && count > 1 { 6 } else { 0 };
+    let lane = words
+        .wrapping_mul((count - 1) as u64)
+        .wrapping_add(addition);
+    let cost = cost_of(alloc, fold, zeros.as_slice(), count, width)?;
+    Ok(cost == lane.wrapping_mul(width as u64))
+}
+
+// The first of the sizes at which a fold takes other AND words.
+fn first_other_cost(
+    alloc: Global,
+    fold: Fold,
+    words: u64,
+    sizes: &[(usize, usize)],
+) -> Result<Option<(usize, usize)>, AllocError> {
+    for (count, width) in sizes {
+        if !costs(alloc, fold, words, *count, *width)? {
+            return Ok(Some((*count, *width)));
+        }
+    }
+    Ok(None)
+}
+
 #[test]
 fn folds_of_blocks_cost_what_is_promised(rt: HostRuntime) -> Result<(), Fail> {
-    for (fold, words) in FOLDS {
-        for (count, width) in SIZES {
-            let lanes = count.checked_mul(width).ok_or("too many lanes")?;
-            let zeros = vec![in rt.alloc(); 0; lanes]?;
-            assert!(rt; lanes < 16 && count > 0 && width <= lanes);
-            let cost = cost_of(rt.alloc(), fold, zeros.as_slice(), count, width)?;
-            let folded_lanes = (lanes - width) as u64;
-            let addition = if fold == Fold::Sum && count > 1 {
-                6u64.wrapping_mul(width as u64)
-            } else {
-                0
-            };
-            assert_eq!(rt;
-                cost,
-                words.wrapping_mul(folded_lanes).wrapping_add(addition),
-                "{fold:?} of {count} blocks"
-            );
-        }
+    for (fold, words) in [(Fold::Sum, 1), (Fold::Least, 8), (Fold::Greatest, 8)] {
+        let other = first_other_cost(rt.alloc(), fold, words, &SIZES)?;
+        assert!(rt; other.is_none(), "{fold:?} of {other:?}");
     }
     Ok(())
 }

@@ -1,19 +1,12 @@
 ghost use Rattle.std.specs.Prelude.{◌≡◌, ◌<◌, ◌^◌, length};
 
+use crate::each_circuit::folded;
 use circuits::{Fold, run_copies, run_folds, run_sums};
 use rand::rngs::StdRng;
 use rand::{RngExt, SeedableRng};
 use std::alloc::{AllocError, Global};
 use std::test::Fail;
 use wires::{Clear, Tally, Wires};
-
-// The folds, of which none is the sums, and the AND words a lane and level of each.
-const FOLDS: [(Option<Fold>, u32); 4] = [
-    (None, 9),
-    (Some(Fold::Sum), 9),
-    (Some(Fold::Least), 10),
-    (Some(Fold::Greatest), 10),
-];
 
 // The words of the folds of runs; a fold of none is the sums.
 fn folds_of(
@@ -35,6 +28,20 @@ fn folds_of(
     wires.value(new).clone()
 }
 
+// Whether the folds of these runs are these words.
+fn folds(
+    alloc: Global,
+    fold: Option<Fold>,
+    joined: &[u64],
+    column: &[u64],
+    want: &[u64],
+) -> Result<bool, AllocError> {
+    if joined.len() != column.len() || joined.len() > 64 {
+        return Ok(false);
+    }
+    Ok(folds_of(alloc, fold, joined, column)?.as_slice() == want)
+}
+
 #[test]
 fn runs_are_folded_lane_by_lane(rt: HostRuntime) -> Result<(), Fail> {
     let joined = [0, 1, 1, 0, 1];
@@ -45,26 +52,23 @@ fn runs_are_folded_lane_by_lane(rt: HostRuntime) -> Result<(), Fail> {
         (Some(Fold::Least), [3, 1, 1, 5, 5]),
         (Some(Fold::Greatest), [3, 3, 4, 5, 9]),
     ] {
-        let value = folds_of(rt.alloc(), fold, &joined, &column)?;
-        assert_eq!(rt; value.as_slice(), want.as_slice(), "{fold:?}");
+        assert!(rt;
+            folds(rt.alloc(), fold, &joined, &column, &want)?,
+            "{fold:?}"
+        );
     }
-    let value = folds_of(rt.alloc(), None, &joined, &[1, 2, 3, 4, 5])?;
-    assert_eq!(rt; value.as_slice(), [1, 3, 6, 4, 9].as_slice());
-    let value = folds_of(rt.alloc(), None, &[1, 7, 2], &[1, 2, 3])?;
-    assert_eq!(rt; value.as_slice(), [1, 3, 3].as_slice());
-    let value = folds_of(rt.alloc(), None, &[], &[])?;
-    assert_eq!(rt; value.len(), 0);
+    assert!(rt;
+        folds(
+            rt.alloc(),
+            None,
+            &joined,
+            &[1, 2, 3, 4, 5],
+            &[1, 3, 6, 4, 9]
+        )?
+    );
+    assert!(rt; folds(rt.alloc(), None, &[1, 7, 2], &[1, 2, 3], &[1, 3, 3])?);
+    assert!(rt; folds(rt.alloc(), None, &[], &[], &[])?);
     Ok(())
-}
-
-// What Rust's own arithmetic gives.
-pub(crate) fn folded(fold: Fold, left: u64, right: u64) -> u64 {
-    match fold {
-        Fold::Sum => left.wrapping_add(right),
-        Fold::Least => left.min(right),
-        Fold::Greatest => left.max(right),
-        Fold::Any => left | right,
-    }
 }
 
 // Which of a thousand lanes are joined to the one before, and random words.
@@ -95,22 +99,39 @@ fn first_other(fold: Option<Fold>, joined: &[u64], column: &[u64], found: &[u64]
     None
 }
 
+// The first lane whose word isn't the fold of its run so far, where the folds are worked out.
+fn first_other_fold(
+    alloc: Global,
+    fold: Option<Fold>,
+    joined: &[u64],
+    column: &[u64],
+) -> Result<Option<usize>, AllocError>
+    requires few { length joined.now < 2 ^ 32 }
+    requires lanes { length joined.now ≡ length column.now }
+{
+    let found = folds_of(alloc, fold, joined, column)?;
+    let fold = Some(fold.unwrap_or(Fold::Sum));
+    Ok(first_other(fold, joined, column, found.as_slice()))
+}
+
 #[test]
 fn a_thousand_random_lanes_are_folded_and_copied(rt: HostRuntime) -> Result<(), Fail> {
     let (joined, column) = random_lanes(rt.alloc())?;
-    assert_eq!(rt; joined.len(), 1000);
-    assert_eq!(rt; column.len(), 1000);
-    for (fold, _) in FOLDS {
-        let value = folds_of(rt.alloc(), fold, &joined, &column)?;
-        let fold = Some(fold.unwrap_or(Fold::Sum));
-        assert_eq!(rt;
-            first_other(fold, &joined, &column, &value),
-            None,
-            "{fold:?}"
-        );
+    assert!(rt; joined.len() == 1000 && column.len() == 1000);
+    for fold in [
+        None,
+        Some(Fold::Sum),
+        Some(Fold::Least),
+        Some(Fold::Greatest),
+    ] {
+        let other = first_other_fold(rt.alloc(), fold, &joined, &column)?;
+        assert!(rt; other.is_none(), "{fold:?} in {other:?}");
     }
-    let value = copies_of(rt.alloc(), &joined, &column)?;
-    assert_eq!(rt; first_other(None, &joined, &column, &value), None, "copies");
+    let copies = copies_of(rt.alloc(), &joined, &column)?;
+    assert!(rt;
+        first_other(None, &joined, &column, &copies).is_none(),
+        "copies"
+    );
     Ok(())
 }
 
@@ -127,17 +148,24 @@ fn cost_of(alloc: Global, fold: Option<Fold>, zeros: &[u64]) -> Result<u64, Allo
     Ok(wires.and_words())
 }
 
+// Whether the folds of one, two and five lanes take so many AND words a lane and level.
+fn costs(alloc: Global, fold: Option<Fold>, words: u64) -> Result<bool, AllocError> {
+    Ok(
+        cost_of(alloc, fold, &[0])? == 0
+            && cost_of(alloc, fold, &[0, 0])? == words.wrapping_mul(2)
+            && cost_of(alloc, fold, &[0, 0, 0, 0, 0])? == words.wrapping_mul(15),
+    )
+}
+
 #[test]
 fn runs_cost_what_is_promised(rt: HostRuntime) -> Result<(), Fail> {
-    for (fold, words) in FOLDS {
-        let lane = u64::from(words);
-        assert_eq!(rt; cost_of(rt.alloc(), fold, &[0])?, 0, "{fold:?}");
-        assert_eq!(rt; cost_of(rt.alloc(), fold, &[0, 0])?, 2 * lane, "{fold:?}");
-        assert_eq!(rt;
-            cost_of(rt.alloc(), fold, &[0, 0, 0, 0, 0])?,
-            15 * lane,
-            "{fold:?}"
-        );
+    for (fold, words) in [
+        (None, 9),
+        (Some(Fold::Sum), 9),
+        (Some(Fold::Least), 10),
+        (Some(Fold::Greatest), 10),
+    ] {
+        assert!(rt; costs(rt.alloc(), fold, words)?, "{fold:?}");
     }
     Ok(())
 }
@@ -154,18 +182,34 @@ fn copies_of(alloc: Global, joined: &[u64], column: &[u64]) -> Result<Vec<u64>, 
     wires.value(copies[0]).clone()
 }
 
+// The words of the copies of two columns of five lanes.
+fn copies_of_two(
+    alloc: Global,
+    joined: &[u64; 5],
+    first: &[u64; 5],
+    second: &[u64; 5],
+) -> Result<(Vec<u64>, Vec<u64>), AllocError> {
+    let mut wires = Clear::new(alloc);
+    let flags = wires.constant(joined)?;
+    let first = wires.constant(first)?;
+    let second = wires.constant(second)?;
+    let copies = run_copies(&mut wires, alloc, flags, &[first, second])?;
+    Ok((
+        wires.value(copies[0]).clone()?,
+        wires.value(copies[1]).clone()?,
+    ))
+}
+
 #[test]
 fn runs_are_copied_lane_by_lane(rt: HostRuntime) -> Result<(), Fail> {
-    let mut wires = Clear::new(rt.alloc());
-    let joined = wires.constant(&[0, 1, 1, 0, 1])?;
-    let first = wires.constant(&[1, 2, 3, 4, 5])?;
-    let second = wires.constant(&[9, 8, 7, 6, 0])?;
-    let copies = run_copies(&mut wires, rt.alloc(), joined, &[first, second])?;
-    assert_eq!(rt; copies.len(), 2);
-    let value = wires.value(copies[0]);
-    assert_eq!(rt; value.as_slice(), [1, 1, 1, 4, 4].as_slice());
-    let value = wires.value(copies[1]);
-    assert_eq!(rt; value.as_slice(), [9, 9, 9, 6, 6].as_slice());
+    let (first, second) = copies_of_two(
+        rt.alloc(),
+        &[0, 1, 1, 0, 1],
+        &[1, 2, 3, 4, 5],
+        &[9, 8, 7, 6, 0],
+    )?;
+    assert_eq!(rt; first.as_slice(), [1, 1, 1, 4, 4].as_slice());
+    assert_eq!(rt; second.as_slice(), [9, 9, 9, 6, 6].as_slice());
     Ok(())
 }
 

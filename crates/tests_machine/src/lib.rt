@@ -13,6 +13,8 @@ mod circuits_run_tests;
 #[cfg(test)]
 mod circuits_tests;
 #[cfg(test)]
+mod each_circuit;
+#[cfg(test)]
 mod lanes_tests;
 #[cfg(test)]
 mod tapes_draws_tests;

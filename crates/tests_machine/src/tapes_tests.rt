@@ -35,6 +35,14 @@ pub(crate) fn needs_of(rt: &HostRuntime, list: &[Need]) -> Result<Needs, Fail> {
     Ok(needs)
 }
 
+// Whether a list becomes an order, and whether what it became or what came back has the same numbers.
+fn taken(alloc: Global, numbers: &[u32]) -> Result<(bool, bool), AllocError> {
+    match Order::new(numbers.to_vec(alloc)?) {
+        Ok(order) => Ok((true, order.places() == numbers)),
+        Err(back) => Ok((false, back.as_slice() == numbers)),
+    }
+}
+
 #[test]
 fn lists_that_are_no_order_come_back(rt: HostRuntime) -> Result<(), Fail> {
     let cases: [(&[u32], bool); 7] = [
@@ -47,61 +55,72 @@ fn lists_that_are_no_order_come_back(rt: HostRuntime) -> Result<(), Fail> {
         (&[1, 2, 1], false),
     ];
     for (numbers, is_order) in cases {
-        match Order::new(numbers.to_vec(rt.alloc())?) {
-            Ok(order) => {
-                assert!(rt; is_order, "{numbers:?}");
-                assert_eq!(rt; order.places(), numbers);
-            }
-            Err(back) => {
-                assert!(rt; !is_order, "{numbers:?}");
-                assert_eq!(rt; back.as_slice(), numbers);
-            }
-        }
+        assert_eq!(rt;
+            taken(rt.alloc(), numbers)?,
+            (is_order, true),
+            "{numbers:?}"
+        );
     }
     Ok(())
 }
 
-// The bytes of a word 5 and the order 2 0 1, and what becomes of them when they are changed.
-#[test]
-fn tapes_are_read_and_written(rt: HostRuntime) -> Result<(), Fail> {
-    let bytes: [u8; 20] = [0, 0, 0, 0, 0, 0, 0, 5, 0, 0, 0, 2, 0, 0, 0, 0, 0, 0, 0, 1];
-    let needs = needs_of(&rt, &[Need::Word, Need::OrderOf(3)])?;
-    let tape = read_tape(rt.alloc(), &bytes, &needs)?;
-    assert_eq!(rt; tape.len(), 2);
-    assert_eq!(rt; word_at(&tape, 0), Some(5));
-    assert_eq!(rt; places_at(&tape, 1), Some([2, 0, 1].as_slice()));
-    assert!(rt; tape.draw(2).is_none());
-    assert_eq!(rt; write_tape(rt.alloc(), &tape)?.as_slice(), bytes.as_slice());
-    let copy = tape.copy(rt.alloc())?;
-    assert_eq!(rt; write_tape(rt.alloc(), &copy)?.as_slice(), bytes.as_slice());
+// The bytes of a word 5 and the order 2 0 1.
+const BYTES: [u8; 20] = [0, 0, 0, 0, 0, 0, 0, 5, 0, 0, 0, 2, 0, 0, 0, 0, 0, 0, 0, 1];
 
-    let mut cursor = copy.cursor();
-    assert!(rt; cursor.next_order().is_none());
-    assert_eq!(rt; cursor.next_word(), Some(5));
-    assert_eq!(rt; cursor.next_word(), None);
-    assert!(rt; cursor.next_order().is_some());
-    assert_eq!(rt; cursor.next_word(), None);
+fn has_draws(tape: &Tape) -> bool {
+    tape.len() == 2
+        && word_at(tape, 0) == Some(5)
+        && places_at(tape, 1) == Some([2, 0, 1].as_slice())
+        && tape.draw(2).is_none()
+}
 
-    let mut longer = bytes.to_vec(rt.alloc())?;
-    longer.push(0)?;
-    let mut repeated = bytes;
-    repeated[19] = 0;
-    let mut nested = bytes;
-    nested[11] = 3;
+// Whether the draws come in turn, each only as what it is.
+fn gives_draws(tape: &Tape) -> bool {
+    let mut cursor = tape.cursor();
+    cursor.next_order().is_none()
+        && cursor.next_word() == Some(5)
+        && cursor.next_word().is_none()
+        && cursor.next_order().is_some()
+        && cursor.next_word().is_none()
+}
+
+fn is_written_as(alloc: Global, tape: &Tape, bytes: &[u8]) -> Result<bool, AllocError> {
+    Ok(write_tape(alloc, tape)?.as_slice() == bytes)
+}
+
+// Whether each change of the bytes has its fault.
+fn tells_faults(alloc: Global, needs: &Needs) -> bool {
+    let longer = [
+        0, 0, 0, 0, 0, 0, 0, 5, 0, 0, 0, 2, 0, 0, 0, 0, 0, 0, 0, 1, 0,
+    ];
+    let repeated = [0, 0, 0, 0, 0, 0, 0, 5, 0, 0, 0, 2, 0, 0, 0, 0, 0, 0, 0, 0];
+    let nested = [0, 0, 0, 0, 0, 0, 0, 5, 0, 0, 0, 3, 0, 0, 0, 0, 0, 0, 0, 1];
     let cases: [(&[u8], TapeFault); 6] = [
-        (&bytes[..19], TapeFault::Short { at: 1 }),
-        (&bytes[..8], TapeFault::Short { at: 1 }),
-        (&bytes[..7], TapeFault::Short { at: 0 }),
+        (&BYTES[..19], TapeFault::Short { at: 1 }),
+        (&BYTES[..8], TapeFault::Short { at: 1 }),
+        (&BYTES[..7], TapeFault::Short { at: 0 }),
         (&longer, TapeFault::Long { at: 2 }),
         (&repeated, TapeFault::NotOrder { at: 1 }),
         (&nested, TapeFault::NotOrder { at: 1 }),
     ];
     for (changed, fault) in cases {
-        match read_tape(rt.alloc(), changed, &needs) {
-            Ok(_) => assert!(rt; false, "{fault:?}"),
-            Err(found) => assert_eq!(rt; found, fault),
+        if read_tape(alloc, changed, needs).err() != Some(fault) {
+            return false;
         }
     }
+    true
+}
+
+#[test]
+fn tapes_are_read_and_written(rt: HostRuntime) -> Result<(), Fail> {
+    let needs = needs_of(&rt, &[Need::Word, Need::OrderOf(3)])?;
+    let tape = read_tape(rt.alloc(), &BYTES, &needs)?;
+    assert!(rt; has_draws(&tape));
+    assert!(rt; is_written_as(rt.alloc(), &tape, &BYTES)?);
+    let copy = tape.copy(rt.alloc())?;
+    assert!(rt; is_written_as(rt.alloc(), &copy, &BYTES)?);
+    assert!(rt; gives_draws(&copy));
+    assert!(rt; tells_faults(rt.alloc(), &needs));
     Ok(())
 }
 
@@ -126,37 +145,25 @@ fn three(rt: &HostRuntime, needs: &[Need]) -> Result<Schedule, Fail> {
     })
 }
 
+// Whether a tape has a word, an order and a word, and these.
+fn has_three(tape: &Tape, word: u64, places: &[u32], last: u64) -> bool {
+    tape.len() == 3
+        && word_at(tape, 0) == Some(word)
+        && places_at(tape, 1) == Some(places)
+        && word_at(tape, 2) == Some(last)
+}
+
 // What `bench/tape_values.py 7` prints, which knows nothing of this crate.
 #[test]
 fn tapes_of_a_seed_are_the_scripts(rt: HostRuntime) -> Result<(), Fail> {
     let schedule = three(&rt, &[Need::Word, Need::OrderOf(3), Need::Word])?;
     let tapes = make_tapes(rt.alloc(), &schedule, 7)?;
-    let cases: [(&Tape, u64, &[u32], u64); 3] = [
-        (
-            &tapes.first,
-            0x8e6c_ab0c_9a6e_36ce,
-            &[0, 2, 1],
-            0xc9d4_478b_0a21_3b9d,
-        ),
-        (
-            &tapes.second,
-            0xd0a2_3af9_bfb0_dc81,
-            &[0, 2, 1],
-            0xe0d1_a9e4_ddd8_ce37,
-        ),
-        (
-            &tapes.third,
-            0x837c_24c6_d05c_2aa6,
-            &[2, 0, 1],
-            0xc613_8b62_5029_848c,
-        ),
-    ];
-    for (tape, word, places, last) in cases {
-        assert_eq!(rt; tape.len(), 3);
-        assert_eq!(rt; word_at(tape, 0), Some(word));
-        assert_eq!(rt; places_at(tape, 1), Some(places));
-        assert_eq!(rt; word_at(tape, 2), Some(last));
-    }
+    let (word, last) = (0x8e6c_ab0c_9a6e_36ce, 0xc9d4_478b_0a21_3b9d);
+    assert!(rt; has_three(&tapes.first, word, &[0, 2, 1], last));
+    let (word, last) = (0xd0a2_3af9_bfb0_dc81, 0xe0d1_a9e4_ddd8_ce37);
+    assert!(rt; has_three(&tapes.second, word, &[0, 2, 1], last));
+    let (word, last) = (0x837c_24c6_d05c_2aa6, 0xc613_8b62_5029_848c);
+    assert!(rt; has_three(&tapes.third, word, &[2, 0, 1], last));
     Ok(())
 }
 
@@ -180,17 +187,24 @@ fn moves(tape: &Tape) -> bool {
     places_at(tape, 0) != Some([0, 1, 2, 3, 4, 5, 6, 7].as_slice())
 }
 
+// Whether a seed gives the same tapes again, and whether one of them begins with another order than the identity.
+fn made_again(alloc: Global, schedule: &Schedule, seed: u64) -> Result<(bool, bool), AllocError> {
+    let once = make_tapes(alloc, schedule, seed)?;
+    let again = make_tapes(alloc, schedule, seed)?;
+    let moved = moves(&once.first) || moves(&once.second) || moves(&once.third);
+    Ok((are_equal(alloc, &once, &again)?, moved))
+}
+
 #[test]
 fn a_seed_gives_the_same_tapes_again(rt: HostRuntime) -> Result<(), Fail> {
     let schedule = three(&rt, &[Need::OrderOf(8), Need::OrderOf(8)])?;
-    let mut moved = false;
+    let mut any_moved = false;
     for seed in 1..21 {
-        let once = make_tapes(rt.alloc(), &schedule, seed)?;
-        let again = make_tapes(rt.alloc(), &schedule, seed)?;
-        assert!(rt; are_equal(rt.alloc(), &once, &again)?, "seed {seed}");
-        moved = moved || moves(&once.first) || moves(&once.second) || moves(&once.third);
+        let (same, moved) = made_again(rt.alloc(), &schedule, seed)?;
+        assert!(rt; same, "seed {seed}");
+        any_moved = any_moved || moved;
     }
-    assert!(rt; moved);
+    assert!(rt; any_moved);
     Ok(())
 }
 
@@ -278,20 +292,42 @@ fn random_words(
     Ok(words)
 }
 
+// Whether the identity of so many items moves none, and whether an order is undone and copied.
+fn is_in_group(alloc: Global, order: &Order, count: u32) -> Result<bool, AllocError> {
+    Ok(
+        is_identity(&Order::identity(alloc, count)?)
+            && is_undone(alloc, order)?
+            && order.copy(alloc)?.places() == order.places(),
+    )
+}
+
+// Whether two orders in turn give what both give as one.
+fn are_composed(
+    alloc: Global,
+    first: &Order,
+    second: &Order,
+    words: &[u64],
+) -> Result<bool, AllocError> {
+    if words.len() != first.len() || words.len() != second.len() {
+        return Ok(false);
+    }
+    let twice = applied_in_turn(alloc, first, second, words)?;
+    let once = applied_as_one(alloc, first, second, words)?;
+    Ok(twice.as_slice() == once.as_slice())
+}
+
 #[test]
 fn random_orders_are_a_group(rt: HostRuntime) -> Result<(), Fail> {
     let mut random = StdRng::seed_from_u64(8);
     for count in [0, 1, 2, 7, 64, 200] {
         let first = shuffled(&rt, &mut random, count)?;
         let second = shuffled(&rt, &mut random, count)?;
-        assert!(rt; is_identity(&Order::identity(rt.alloc(), count)?));
-        assert!(rt; is_undone(rt.alloc(), &first)?, "{count} items");
-        assert_eq!(rt; first.copy(rt.alloc())?.places(), first.places());
+        assert!(rt; is_in_group(rt.alloc(), &first, count)?, "{count} items");
         let words = random_words(rt.alloc(), &mut random, count, 1000)?;
-        assert!(rt; words.len() == first.len() && words.len() == second.len());
-        let twice = applied_in_turn(rt.alloc(), &first, &second, &words)?;
-        let once = applied_as_one(rt.alloc(), &first, &second, &words)?;
-        assert_eq!(rt; twice.as_slice(), once.as_slice());
+        assert!(rt;
+            are_composed(rt.alloc(), &first, &second, &words)?,
+            "{count} items"
+        );
     }
     Ok(())
 }
@@ -342,6 +378,23 @@ fn fault_of_alignment(
     align(alloc, source, target).err()
 }
 
+// Whether the order that aligns rows keeps occurrences, and is undone by the one that aligns them back.
+fn are_aligned(
+    alloc: Global,
+    source: &Vec<Vec<u64>>,
+    target: &Vec<Vec<u64>>,
+) -> Result<bool, Fail> {
+    if source.len() >= 1000 || target.len() >= 1000 {
+        return Ok(false);
+    }
+    let order = align(alloc, source, target)?;
+    let back = align(alloc, target, source)?;
+    Ok(
+        back.places() == order.inverse(alloc)?.places()
+            && keeps_occurrences(alloc, &order, source, target)?,
+    )
+}
+
 // Rows of one word below 5, so that many are equal.
 #[test]
 fn rows_with_repeats_are_aligned(rt: HostRuntime) -> Result<(), Fail> {
@@ -351,17 +404,11 @@ fn rows_with_repeats_are_aligned(rt: HostRuntime) -> Result<(), Fail> {
         let source = rows_of(rt.alloc(), &words)?;
         words.as_mut_slice().shuffle(&mut random);
         let target = rows_of(rt.alloc(), &words)?;
-        assert!(rt; source.len() < 1000 && target.len() < 1000);
-        let order = align(rt.alloc(), &source, &target)?;
-        let back = align(rt.alloc(), &target, &source)?;
-        assert_eq!(rt; back.places(), order.inverse(rt.alloc())?.places());
-        assert!(rt; keeps_occurrences(rt.alloc(), &order, &source, &target)?);
+        assert!(rt; are_aligned(rt.alloc(), &source, &target)?, "{count} rows");
         words.push(5)?;
         let more = rows_of(rt.alloc(), &words)?;
-        assert_eq!(rt;
-            fault_of_alignment(rt.alloc(), &source, &more),
-            Some(AlignFault::NotSameBag)
-        );
+        let fault = fault_of_alignment(rt.alloc(), &source, &more);
+        assert_eq!(rt; fault, Some(AlignFault::NotSameBag));
     }
     Ok(())
 }
