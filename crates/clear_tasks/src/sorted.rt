@@ -17,7 +17,7 @@ pub(crate) fn fits_sorted(columns: u32, takes: &[Shape], gives: &[Shape]) -> boo
     is_table(columns, rows, takes) && is_table(columns, rows, gives)
 }
 
-// The valid rows in the order of rows, with one list of places beside the table.
+// The valid rows in the order of rows, and zeros behind them.
 pub(crate) fn sorted(
     alloc: Global,
     columns: u32,
