@@ -7,10 +7,11 @@ use Rattle.std.proofs.lemmas.List.{ext_get_or, get_or-append_right, get_or-drop,
 use Rattle.std.proofs.lemmas.List.FromFn.{fill_by_all, get_or-map-range_with_len, get_or-range_with_len, length-map-range_with_len, length-range_with_len, map-range_with_len_more}
 use Rattle.std.proofs.lemmas.List.Sums.{fold_push}
 use Rattle.lanes.specs.Lanes.{lanewise, picked}
-use Rattle.lanes.proofs.LaneLemmas.{get_or-lanewise, get_or-picked, length-lanewise, length-picked}
 use Rattle.circuits.specs.declared.folds.Fold.{Fold}
-use Rattle.circuits.specs.Blocks.{blocks_folded, halves_folded, lane_of_blocks, words_folded}
+use Rattle.lanes.specs.Folds.{words_folded}
+use Rattle.circuits.specs.Blocks.{blocks_folded, halves_folded, lane_of_blocks}
 use Rattle.circuits.specs.Folds.{combined_word}
+use Rattle.circuits.proofs.LaneLists.{get_or-lanewise, get_or-picked, length-lanewise, length-picked}
 use Rattle.circuits.proofs.FoldValues.{combined_assoc, combined_comm}
 
 -- the fold of a sequence of words, from the first up to the one of this number

@@ -9,46 +9,45 @@ use Rattle.lanes.specs.Lanes.{lanewise}
 use Rattle.lanes.specs.Shifts.{spread_word}
 use Rattle.lanes.specs.Sums.{chosen_word}
 use Rattle.lanes.specs.Word.{AreWords, word_not}
-use Rattle.lanes.proofs.Carries.{bit_cases}
-use Rattle.lanes.proofs.WordChoice.{spread_off, spread_on}
-use Rattle.lanes.proofs.WordLemmas.{not_not}
+use Rattle.lanes.specs.WordLaws.{WordsUnderFlags}
 use Rattle.circuits.specs.declared.folds.Fold.{Fold}
 use Rattle.circuits.specs.declared.folds.Fold.TheVariants.{Sum, Least, Greatest, Any}
 use Rattle.circuits.specs.Folds.{combined_word, neutral_word}
 use Rattle.circuits.specs.Values.{cleared_lanes, raised_lanes}
+use Rattle.circuits.proofs.LaneLists.{bit_cases}
 use Rattle.circuits.proofs.LaneValues.{head_word, tail_words}
 
 -- a word and a spread flag
-cleared_word : (flag x : ℕ) → x < 2 ^ 64 → bit_and (spread_word flag) x ≡ chosen_word flag x 0
-cleared_word flag x below = ⊎_elim
-    (λ (off : flag % 2 ≡ 0). let no : nat_eq (flag % 2) 1 ≡ false = grind (arith, nat_tests) in spread_off flag x off ∙ rw no refl)
-    (λ (on : flag % 2 ≡ 1). let yes : nat_eq (flag % 2) 1 ≡ true = grind (arith, nat_tests) in spread_on flag x on below ∙ rw yes refl)
+cleared_word : WordsUnderFlags → (flag x : ℕ) → x < 2 ^ 64 → bit_and (spread_word flag) x ≡ chosen_word flag x 0
+cleared_word laws flag x below = ⊎_elim
+    (λ (off : flag % 2 ≡ 0). let no : nat_eq (flag % 2) 1 ≡ false = grind (arith, nat_tests) in laws.off flag x off ∙ rw no refl)
+    (λ (on : flag % 2 ≡ 1). let yes : nat_eq (flag % 2) 1 ≡ true = grind (arith, nat_tests) in laws.on flag x on below ∙ rw yes refl)
     (bit_cases (flag % 2) (omega arith))
 
 not_word : (x : ℕ) → x < 2 ^ 64 → word_not x < 2 ^ 64
 not_word x below = xor_lt 64 x (2 ^ 64 - 1) below (lit< tt)
 
-raised_word : (flag x : ℕ) → x < 2 ^ 64 → word_not (bit_and (spread_word flag) (word_not x)) ≡ chosen_word flag x (2 ^ 64 - 1)
-raised_word flag x below = ⊎_elim
-    (λ (off : flag % 2 ≡ 0). let no : nat_eq (flag % 2) 1 ≡ false = grind (arith, nat_tests) in ap word_not (spread_off flag (word_not x) off) ∙ rw no refl)
-    (λ (on : flag % 2 ≡ 1). let yes : nat_eq (flag % 2) 1 ≡ true = grind (arith, nat_tests) in ap word_not (spread_on flag (word_not x) on (not_word x below)) ∙ not_not x ∙ rw yes refl)
+raised_word : WordsUnderFlags → (flag x : ℕ) → x < 2 ^ 64 → word_not (bit_and (spread_word flag) (word_not x)) ≡ chosen_word flag x (2 ^ 64 - 1)
+raised_word laws flag x below = ⊎_elim
+    (λ (off : flag % 2 ≡ 0). let no : nat_eq (flag % 2) 1 ≡ false = grind (arith, nat_tests) in ap word_not (laws.off flag (word_not x) off) ∙ rw no refl)
+    (λ (on : flag % 2 ≡ 1). let yes : nat_eq (flag % 2) 1 ≡ true = grind (arith, nat_tests) in ap word_not (laws.on flag (word_not x) on (not_word x below)) ∙ laws.twice x ∙ rw yes refl)
     (bit_cases (flag % 2) (omega arith))
 
-pub cleared_is : (flags xs : List ℕ) → AreWords xs → cleared_lanes flags xs ≡ lanewise (λ flag x. chosen_word flag x 0) flags xs
+pub cleared_is : WordsUnderFlags → (flags xs : List ℕ) → AreWords xs → cleared_lanes flags xs ≡ lanewise (λ flag x. chosen_word flag x 0) flags xs
 unfolding cleared_lanes
-cleared_is [] xs h = refl
-cleared_is (flag ∷ flags) [] h = refl
-cleared_is (flag ∷ flags) (x ∷ xs) h =
-    ap (λ w. w ∷ cleared_lanes flags xs) (cleared_word flag x (head_word x xs h))
-    ∙ ap (λ rest. chosen_word flag x 0 ∷ rest) (cleared_is flags xs (tail_words x xs h))
+cleared_is laws [] xs h = refl
+cleared_is laws (flag ∷ flags) [] h = refl
+cleared_is laws (flag ∷ flags) (x ∷ xs) h =
+    ap (λ w. w ∷ cleared_lanes flags xs) (cleared_word laws flag x (head_word x xs h))
+    ∙ ap (λ rest. chosen_word flag x 0 ∷ rest) (cleared_is laws flags xs (tail_words x xs h))
 
-pub raised_is : (flags xs : List ℕ) → AreWords xs → raised_lanes flags xs ≡ lanewise (λ flag x. chosen_word flag x (2 ^ 64 - 1)) flags xs
+pub raised_is : WordsUnderFlags → (flags xs : List ℕ) → AreWords xs → raised_lanes flags xs ≡ lanewise (λ flag x. chosen_word flag x (2 ^ 64 - 1)) flags xs
 unfolding cleared_lanes raised_lanes
-raised_is [] xs h = refl
-raised_is (flag ∷ flags) [] h = refl
-raised_is (flag ∷ flags) (x ∷ xs) h =
-    ap (λ w. w ∷ raised_lanes flags xs) (raised_word flag x (head_word x xs h))
-    ∙ ap (λ rest. chosen_word flag x (2 ^ 64 - 1) ∷ rest) (raised_is flags xs (tail_words x xs h))
+raised_is laws [] xs h = refl
+raised_is laws (flag ∷ flags) [] h = refl
+raised_is laws (flag ∷ flags) (x ∷ xs) h =
+    ap (λ w. w ∷ raised_lanes flags xs) (raised_word laws flag x (head_word x xs h))
+    ∙ ap (λ rest. chosen_word flag x (2 ^ 64 - 1) ∷ rest) (raised_is laws flags xs (tail_words x xs h))
 
 -- words may be folded in any order, and the neutral word changes no fold
 pub combined_assoc : (fold : Fold) (x y z : ℕ) → combined_word fold (combined_word fold x y) z ≡ combined_word fold x (combined_word fold y z)

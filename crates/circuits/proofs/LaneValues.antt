@@ -13,9 +13,7 @@ use Rattle.lanes.specs.Product.{product_term}
 use Rattle.lanes.specs.Shifts.{shifted_left, shifted_right}
 use Rattle.lanes.specs.Sums.{chosen_word, difference_word, equal_word, less_word, product_word, sum_word}
 use Rattle.lanes.specs.Word.{AreWords, word_not}
-use Rattle.lanes.proofs.WordChoice.{choice_by_mask, equality_by_fold}
-use Rattle.lanes.proofs.CarrySave.{product_of_saved}
-use Rattle.lanes.proofs.WordSums.{difference_by_sum, less_by_carry, sum_of_carries}
+use Rattle.lanes.specs.WordLaws.{WordsByBits, WordsUnderFlags}
 use Rattle.circuits.specs.Values.{chosen_lanes, difference_lanes, fold_lanes, less_lanes, masked_choice, generates_lanes, moved_carries, nearer_lanes, or_lanes, propagates_lanes, saved_carries, saved_sums, shared_fold, sum_lanes, term_lanes, tops_lanes, twice_lanes}
 
 -- the first word of a list of words, and the rest
@@ -63,23 +61,23 @@ lanewise_nil f [] = refl
 lanewise_nil f (x ∷ xs) = refl
 
 -- a choice
-pub choice_is : (flags ones others : List ℕ) → AreWords ones → AreWords others → masked_choice flags ones others ≡ chosen_lanes flags ones others
+pub choice_is : WordsUnderFlags → (flags ones others : List ℕ) → AreWords ones → AreWords others → masked_choice flags ones others ≡ chosen_lanes flags ones others
 unfolding masked_choice
-choice_is [] ones others first second = lanewise_nil bit_xor others
-choice_is (flag ∷ flags) [] others first second = lanewise_nil bit_xor others
-choice_is (flag ∷ flags) (one ∷ ones) [] first second = refl
-choice_is (flag ∷ flags) (one ∷ ones) (other ∷ others) first second =
-    ap (λ h. h ∷ masked_choice flags ones others) (choice_by_mask flag one other (head_word one ones first) (head_word other others second))
-    ∙ ap (λ rest. chosen_word flag one other ∷ rest) (choice_is flags ones others (tail_words one ones first) (tail_words other others second))
+choice_is laws [] ones others first second = lanewise_nil bit_xor others
+choice_is laws (flag ∷ flags) [] others first second = lanewise_nil bit_xor others
+choice_is laws (flag ∷ flags) (one ∷ ones) [] first second = refl
+choice_is laws (flag ∷ flags) (one ∷ ones) (other ∷ others) first second =
+    ap (λ h. h ∷ masked_choice flags ones others) (laws.choice flag one other (head_word one ones first) (head_word other others second))
+    ∙ ap (λ rest. chosen_word flag one other ∷ rest) (choice_is laws flags ones others (tail_words one ones first) (tail_words other others second))
 
 -- equality as bit 0 of the fold
-pub equality_is : (xs ys : List ℕ) → AreWords xs → AreWords ys → lanewise1 (λ x. bit_and x 1) (shared_fold xs ys) ≡ lanewise equal_word xs ys
+pub equality_is : WordsByBits → (xs ys : List ℕ) → AreWords xs → AreWords ys → lanewise1 (λ x. bit_and x 1) (shared_fold xs ys) ≡ lanewise equal_word xs ys
 unfolding shared_fold
-equality_is xs ys first second =
+equality_is laws xs ys first second =
     ap (λ zs. lanewise1 (λ x. bit_and x 1) (lanewise1 (folded_word 6) zs)) (lanewise1_after word_not bit_xor xs ys)
     ∙ ap (lanewise1 (λ x. bit_and x 1)) (lanewise1_after (folded_word 6) (λ x y. word_not (bit_xor x y)) xs ys)
     ∙ lanewise1_after (λ x. bit_and x 1) (λ x y. folded_word 6 (word_not (bit_xor x y))) xs ys
-    ∙ same_lanes _ equal_word equality_by_fold xs ys first second
+    ∙ same_lanes _ equal_word laws.equality xs ys first second
 
 -- no step of a fold, and one
 pub fold_start : (xs : List ℕ) → xs ≡ lanewise1 (folded_word 0) xs
@@ -133,26 +131,26 @@ propagates_join level (x ∷ xs) [] = refl
 propagates_join level (x ∷ xs) (y ∷ ys) = ap (λ rest. (span_after (suc level) x y).propagate ∷ rest) (propagates_join level xs ys)
 
 -- sums, differences, comparisons
-pub sum_is : (xs ys : List ℕ) → AreWords xs → AreWords ys → sum_lanes xs ys ≡ lanewise sum_word xs ys
+pub sum_is : WordsByBits → (xs ys : List ℕ) → AreWords xs → AreWords ys → sum_lanes xs ys ≡ lanewise sum_word xs ys
 unfolding sum_lanes
-sum_is xs ys first second =
+sum_is laws xs ys first second =
     ap (lanewise bit_xor (lanewise bit_xor xs ys)) (lanewise1_after (shifted_left 1) carries_word xs ys)
     ∙ lanewise_after bit_xor bit_xor (λ x y. shifted_left 1 (carries_word x y)) xs ys
-    ∙ same_lanes _ sum_word sum_of_carries xs ys first second
+    ∙ same_lanes _ sum_word laws.sum xs ys first second
 
-pub less_is : (xs ys : List ℕ) → AreWords xs → AreWords ys → less_lanes xs ys ≡ lanewise less_word xs ys
+pub less_is : WordsByBits → (xs ys : List ℕ) → AreWords xs → AreWords ys → less_lanes xs ys ≡ lanewise less_word xs ys
 unfolding less_lanes
-less_is xs ys first second =
+less_is laws xs ys first second =
     ap (lanewise1 (shifted_right 63)) (lanewise_first carries_word word_not xs ys)
     ∙ lanewise1_after (shifted_right 63) (λ x y. carries_word (word_not x) y) xs ys
-    ∙ same_lanes _ less_word less_by_carry xs ys first second
+    ∙ same_lanes _ less_word laws.less xs ys first second
 
-pub difference_is : (xs ys : List ℕ) → AreWords xs → AreWords ys → difference_lanes xs ys ≡ lanewise difference_word xs ys
+pub difference_is : WordsByBits → (xs ys : List ℕ) → AreWords xs → AreWords ys → difference_lanes xs ys ≡ lanewise difference_word xs ys
 unfolding difference_lanes
-difference_is xs ys first second =
+difference_is laws xs ys first second =
     ap (lanewise1 word_not) (lanewise_first sum_word word_not xs ys)
     ∙ lanewise1_after word_not (λ x y. sum_word (word_not x) y) xs ys
-    ∙ same_lanes _ difference_word difference_by_sum xs ys first second
+    ∙ same_lanes _ difference_word laws.difference xs ys first second
 
 -- the lesser and the greater of two words by a choice
 lesser : (x y : ℕ) → chosen_word (less_word x y) x y ≡ min x y
@@ -217,8 +215,8 @@ carries_step more [] ys = refl
 carries_step more (x ∷ xs) [] = refl
 carries_step more (x ∷ xs) (y ∷ ys) = ap (λ rest. (saved_terms (suc more) x y).carry ∷ rest) (carries_step more xs ys)
 
-pub product_is : (xs ys : List ℕ) → AreWords xs → AreWords ys
+pub product_is : WordsByBits → (xs ys : List ℕ) → AreWords xs → AreWords ys
     → lanewise sum_word (lanewise (λ x y. (saved_terms 62 x y).sum) xs ys) (lanewise (λ x y. (saved_terms 62 x y).carry) xs ys) ≡ lanewise product_word xs ys
-product_is xs ys first second =
+product_is laws xs ys first second =
     lanewise_after sum_word (λ x y. (saved_terms 62 x y).sum) (λ x y. (saved_terms 62 x y).carry) xs ys
-    ∙ same_lanes _ product_word (λ x y above below. product_of_saved x y below) xs ys first second
+    ∙ same_lanes _ product_word (λ x y above below. laws.product x y below) xs ys first second

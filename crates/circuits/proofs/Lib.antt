@@ -1,3 +1,4 @@
+pub mod LaneLists
 pub mod LaneValues
 pub mod Restated
 pub mod Levels

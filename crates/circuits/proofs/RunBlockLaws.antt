@@ -3,7 +3,7 @@ use Rattle.std.proofs.Common.{◌≡◌, ℕ, zero, suc, ◌+◌, ◌-◌, ◌%�
 use Rattle.std.specs.Prelude.{nat_eq}
 use Rattle.std.proofs.lemmas.Bool.{cases_lt}
 use Rattle.std.proofs.lemmas.List.{get_or-append_right, get_or-append-add, get_or-replicate, get_or_append_left, length-replicate}
-use Rattle.circuits.specs.Blocks.{words_folded}
+use Rattle.lanes.specs.Folds.{words_folded}
 use Rattle.circuits.specs.Laws.{BeginsRun, IsOneRun}
 use Rattle.circuits.specs.Runs.{fold_back, run_before, runs_copied, runs_folded}
 use Rattle.circuits.proofs.BlockLaws.{folded_list, folded_to}

@@ -10,12 +10,11 @@ use Rattle.std.proofs.lemmas.List.FromFn.{fill_by_all, get_or-map-range_with_len
 use Rattle.std.proofs.lemmas.Nat.{and_mask}
 use Rattle.lanes.specs.Lanes.{lanewise, lanewise1, picked}
 use Rattle.lanes.specs.Sums.{chosen_word}
-use Rattle.lanes.proofs.Carries.{bit_cases}
-use Rattle.lanes.proofs.LaneLemmas.{get_or-lanewise, get_or-picked, length-lanewise, length-picked}
 use Rattle.circuits.specs.declared.folds.Fold.{Fold}
 use Rattle.circuits.specs.RunLoops.{further_folds, further_lanes, moved_lanes, near_folds, reaching_lanes, taken_word}
 use Rattle.circuits.specs.Runs.{by_lane, fold_back, run_before, runs_copied, runs_folded}
 use Rattle.circuits.specs.Values.{chosen_lanes}
+use Rattle.circuits.proofs.LaneLists.{bit_cases, get_or-lanewise, get_or-picked, length-lanewise, length-picked}
 use Rattle.circuits.proofs.FoldValues.{combined_assoc}
 
 -- a word for each lane: its length, its words, and which list it is

@@ -9,9 +9,10 @@ use Rattle.lanes.specs.CarrySave.{CarrySaveKeepsSum, saved_carry, saved_sum}
 use Rattle.lanes.specs.Lanes.{lanewise}
 use Rattle.lanes.specs.Shifts.{shifted_left}
 use Rattle.lanes.specs.Sums.{sum_word}
-use Rattle.lanes.proofs.LaneLemmas.{get_or-lanewise, length-lanewise}
-use Rattle.circuits.specs.Blocks.{blocks_folded, lane_of_blocks, thirds_saved, words_folded}
+use Rattle.lanes.specs.Folds.{words_folded}
+use Rattle.circuits.specs.Blocks.{blocks_folded, lane_of_blocks, thirds_saved}
 use Rattle.circuits.specs.Values.{moved_carries, saved_carries, saved_sums}
+use Rattle.circuits.proofs.LaneLists.{get_or-lanewise, length-lanewise}
 use Rattle.circuits.proofs.BlockLaws.{folded_to, folded_words, lane_within, same_lanes}
 
 -- the sum of the first so many numbers of a sequence

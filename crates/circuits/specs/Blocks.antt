@@ -1,13 +1,9 @@
 -- Blocks of lanes that lie one after the other: lane i of block j is lane j * width + i.
-use Rattle.std.specs.Prelude.{ℕ, ◌+◌, ◌*◌, List, [], ◌∷◌, ◌++◌, length, map, slice_index, slice_range}
-use Rattle.std.specs.List.{fold, range_with_len}
+use Rattle.std.specs.Prelude.{ℕ, ◌+◌, ◌*◌, List, ◌++◌, length, map, slice_index, slice_range}
+use Rattle.std.specs.List.{range_with_len}
+use Rattle.lanes.specs.Folds.{words_folded}
 use Rattle.lanes.specs.Lanes.{lanewise}
 use Rattle.circuits.specs.Values.{saved_carries, saved_sums}
-
--- the fold of words, from the first on
-abbrev pub words_folded : (ℕ → ℕ → ℕ) → List ℕ → ℕ
-words_folded op [] = 0
-words_folded op (x ∷ xs) = fold op x xs
 
 -- the words of one lane of so many blocks
 abbrev pub lane_of_blocks : ℕ → ℕ → List ℕ → ℕ → List ℕ

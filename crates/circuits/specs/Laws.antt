@@ -1,7 +1,7 @@
 -- The laws of folds, and of runs over blocks of lanes that lie one after the other.
 use Rattle.std.specs.Prelude.{◌≡◌, ℕ, ◌-◌, ◌%◌, ◌^◌, ◌<◌, List, ◌++◌, length, replicate, slice_index}
 use Rattle.circuits.specs.declared.folds.Fold.{Fold}
-use Rattle.circuits.specs.Blocks.{words_folded}
+use Rattle.lanes.specs.Folds.{words_folded}
 use Rattle.circuits.specs.Folds.{combined_word, neutral_word}
 use Rattle.circuits.specs.Runs.{runs_copied, runs_folded}
 

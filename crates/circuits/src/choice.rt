@@ -8,6 +8,7 @@ ghost use Rattle.wires.specs.Growth.{Carries, Grows, IsMade, lanes_of};
 ghost use Rattle.circuits.specs.Values.{chosen_lanes, masked_choice};
 
 use crate::sums::lt;
+use lanes::word_laws;
 use std::alloc::AllocError;
 use wires::{Wire, Wires};
 
@@ -25,6 +26,7 @@ pub fn mux<W: Wires>(wires: &mut W, flag: Wire, one: Wire, zero: Wire) -> Result
     ensures calls { W.and_calls wires.new ≤ W.and_calls wires.old + 1 }
     ensures wires { length (W.shape wires.new) ≤ length (W.shape wires.old) + 4 }
 {
+    word_laws();
     let new = choose(wires, flag, one, zero)?;
     Ok(new)
 }

@@ -9,6 +9,7 @@ ghost use Rattle.wires.specs.Environment.{words};
 ghost use Rattle.wires.specs.Growth.{Carries, Grows, IsMade, lanes_of};
 ghost use Rattle.circuits.specs.Values.{fold_lanes, shared_fold};
 
+use lanes::word_laws;
 use std::alloc::AllocError;
 use wires::{Wire, Wires};
 
@@ -26,6 +27,7 @@ pub fn eq<W: Wires>(wires: &mut W, left: Wire, right: Wire) -> Result<Wire, Allo
     ensures calls { W.and_calls wires.new ≤ W.and_calls wires.old + 6 }
     ensures wires { length (W.shape wires.new) ≤ length (W.shape wires.old) + 15 }
 {
+    word_laws();
     let folded = fold_shared(wires, left, right)?;
     let new = wires.mask(folded, 1)?;
     Ok(new)

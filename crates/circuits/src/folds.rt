@@ -11,6 +11,7 @@ ghost use Rattle.circuits.specs.Values.{cleared_lanes, raised_lanes};
 use crate::bits::or;
 use crate::choice::{greatest, least};
 use crate::sums::add;
+use lanes::word_laws;
 use std::alloc::AllocError;
 use wires::{Wire, Wires};
 
@@ -82,6 +83,7 @@ pub fn masked<W: Wires>(
     ensures calls { W.and_calls wires.new ≤ W.and_calls wires.old + 1 }
     ensures wires { length (W.shape wires.new) ≤ length (W.shape wires.old) + 4 }
 {
+    word_laws();
     match fold {
         Fold::Sum => {
             let new = cleared(wires, flag, word)?;

@@ -11,6 +11,7 @@ ghost use Rattle.circuits.specs.Values.{saved_carries, saved_sums, term_lanes};
 
 use crate::carry_save::{Saved, save};
 use crate::sums::add;
+use lanes::word_laws;
 use std::alloc::AllocError;
 use wires::{Wire, Wires};
 
@@ -29,6 +30,7 @@ pub fn mul<W: Wires>(wires: &mut W, left: Wire, right: Wire) -> Result<Wire, All
     ensures calls { W.and_calls wires.new ≤ W.and_calls wires.old + 133 }
     ensures wires { length (W.shape wires.new) ≤ length (W.shape wires.old) + 744 }
 {
+    word_laws();
     let terms = terms_saved(wires, left, right)?;
     let new = add(wires, terms.sum, terms.carry)?;
     Ok(new)

@@ -9,6 +9,7 @@ ghost use Rattle.wires.specs.Growth.{Carries, Grows, IsMade, lanes_of};
 ghost use Rattle.circuits.specs.Values.{difference_lanes, less_lanes, sum_lanes};
 
 use crate::prefix::carries;
+use lanes::word_laws;
 use std::alloc::AllocError;
 use wires::{Wire, Wires};
 
@@ -27,6 +28,7 @@ pub fn add<W: Wires>(wires: &mut W, left: Wire, right: Wire) -> Result<Wire, All
     ensures calls { W.and_calls wires.new ≤ W.and_calls wires.old + 7 }
     ensures wires { length (W.shape wires.new) ≤ length (W.shape wires.old) + 116 }
 {
+    word_laws();
     let new = add_by_carries(wires, left, right)?;
     Ok(new)
 }
@@ -45,6 +47,7 @@ pub fn lt<W: Wires>(wires: &mut W, left: Wire, right: Wire) -> Result<Wire, Allo
     ensures calls { W.and_calls wires.new ≤ W.and_calls wires.old + 7 }
     ensures wires { length (W.shape wires.new) ≤ length (W.shape wires.old) + 115 }
 {
+    word_laws();
     let new = last_carry(wires, left, right)?;
     Ok(new)
 }
@@ -63,6 +66,7 @@ pub fn sub<W: Wires>(wires: &mut W, left: Wire, right: Wire) -> Result<Wire, All
     ensures calls { W.and_calls wires.new ≤ W.and_calls wires.old + 7 }
     ensures wires { length (W.shape wires.new) ≤ length (W.shape wires.old) + 118 }
 {
+    word_laws();
     let new = turned_sum(wires, left, right)?;
     Ok(new)
 }

@@ -9,6 +9,6 @@ returns-clause-ok g c =
     let fits = g.met.W.Wires.fits in
     let before = c.choose.ensures.grows.within in
     restated _ _ _ _ _ (λ v. chosen_lanes (words v c.args.flag) (words v c.args.one) (words v c.args.zero)) c.in_ok-new.ensures.ok
-    (λ v possible. choice_is (words v c.args.flag) (words v c.args.one) (words v c.args.zero)
+    (λ v possible. choice_is c.word_laws.ensures.flags (words v c.args.flag) (words v c.args.one) (words v c.args.zero)
     (fits c.args.wires.now v c.args.one (before v possible) c.requires.one).below
     (fits c.args.wires.now v c.args.zero (before v possible) c.requires.zero).below)

@@ -18,7 +18,7 @@ returns-clause-ok g c =
           let first = c.fold_shared.ensures.grows.within v middle in
           new.value v possible
           ∙ ap (lanewise1 (λ x. bit_and x 1)) (folded.value v middle)
-          ∙ equality_is (words v c.args.left) (words v c.args.right)
+          ∙ equality_is c.word_laws.ensures.bits (words v c.args.left) (words v c.args.right)
           (fits c.args.wires.now v c.args.left first c.requires.left).below
           (fits c.args.wires.now v c.args.right first c.requires.right).below;
     }

@@ -22,5 +22,5 @@ returns-clause-ok g c =
           new.value v possible
           ∙ ap (λ xs. lanewise sum_word xs (words v c.in_ok-terms.terms.carry)) (terms.sum.value v middle)
           ∙ ap (lanewise sum_word (lanewise (λ x y. (saved_terms 62 x y).sum) left right)) (terms.carry.value v middle)
-          ∙ product_is left right (fits c.args.wires.now v c.args.left first c.requires.left).below (fits c.args.wires.now v c.args.right first c.requires.right).below;
+          ∙ product_is c.word_laws.ensures.bits left right (fits c.args.wires.now v c.args.left first c.requires.left).below (fits c.args.wires.now v c.args.right first c.requires.right).below;
     }

@@ -10,6 +10,6 @@ returns-clause-ok g c =
     let fits = g.met.W.Wires.fits in
     let before = c.last_carry.ensures.grows.within in
     restated _ _ _ _ _ (λ v. lanewise less_word (words v c.args.left) (words v c.args.right)) c.in_ok-new.ensures.ok
-    (λ v possible. less_is (words v c.args.left) (words v c.args.right)
+    (λ v possible. less_is c.word_laws.ensures.bits (words v c.args.left) (words v c.args.right)
     (fits c.args.wires.now v c.args.left (before v possible) c.requires.left).below
     (fits c.args.wires.now v c.args.right (before v possible) c.requires.right).below)
