@@ -3,6 +3,7 @@ pub mod BagFacts
 pub mod Columns
 pub mod Cuts
 pub mod DistinctRows
+pub mod Firsts
 pub mod GroupPlaces
 pub mod Groups
 pub mod Joins

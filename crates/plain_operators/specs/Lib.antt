@@ -1,5 +1,6 @@
 pub mod Columns
 pub mod Cuts
+pub mod Firsts
 pub mod Folds
 pub mod Index
 pub mod Items

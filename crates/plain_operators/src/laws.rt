@@ -1,5 +1,6 @@
 //! Laws of the operators. Each function does nothing, and its contract is the law.
 ghost use Rattle.plain_operators.specs.Cuts.{AggregatesOfCuts, OperatorsOfCuts};
+ghost use Rattle.plain_operators.specs.Firsts.{DistinctOfFirsts, GroupOfFirsts};
 ghost use Rattle.plain_operators.specs.Folds.{AggregatesAreFolds};
 ghost use Rattle.plain_operators.specs.Laws.{OperatorsKeepBags, OperatorsOfAppend, GroupOfBlocks, WholeTableIsGroup, DistinctIsGroup};
 ghost use Rattle.plain_operators.specs.OnSources.{OperatorKeepsBags, OperatorKeepsSize, OperatorKeepsWidth};
@@ -79,6 +80,12 @@ pub fn filter_of_places()
 /// A join is the joined rows of the matching pairs of places, in nested order.
 pub fn join_of_places()
     ensures { JoinOfPlaces }
+{}
+
+/// Distinct rows, and the rows of a group, stand at the places that are first with their row or their keys.
+pub fn operators_of_firsts()
+    ensures distinct { DistinctOfFirsts }
+    ensures group { GroupOfFirsts }
 {}
 
 /// What is wanted of each operator's rows has the same bag where the columns that it depends on have.
