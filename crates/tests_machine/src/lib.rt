@@ -17,6 +17,8 @@ mod each_circuit;
 #[cfg(test)]
 mod lanes_tests;
 #[cfg(test)]
+mod orders_tests;
+#[cfg(test)]
 mod tapes_draws_tests;
 #[cfg(test)]
 mod tapes_tests;
