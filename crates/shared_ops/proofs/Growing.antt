@@ -34,6 +34,11 @@ grows_then grown possible shape a b c first second = record {
   };
 }
 
+pub grows_four : {S : Type 0} (grown : S → S → Type 0) (possible : S → Environment → Type 0) (shape : S → List ℕ) (a b c d e : S)
+    → Grows grown possible shape a b → Grows grown possible shape b c → Grows grown possible shape c d → Grows grown possible shape d e → Grows grown possible shape a e
+grows_four grown possible shape a b c d e first second third fourth =
+    grows_then grown possible shape a d e (grows_then grown possible shape a c d (grows_then grown possible shape a b c first second) third) fourth
+
 -- a wire keeps its lanes and its value
 pub carried_on : {S : Type 0} (grown : S → S → Type 0) (possible : S → Environment → Type 0) (shape : S → List ℕ) (old new : S) (wire : Wire) (n : ℕ) (f : Environment → List ℕ)
     → Grows grown possible shape old new → Carries (possible old) (shape old) wire n f → Carries (possible new) (shape new) wire n f

@@ -43,7 +43,7 @@ pub operand_long : (operand : Operand) (count : ℕ) (columns : List (List ℕ))
 operand_long (Column column) count columns long fits = long column [] fits
 operand_long (Constant word) count columns long fits = length-replicate count word
 
-operand_at : (operand : Operand) (count : ℕ) (columns : List (List ℕ)) (k : ℕ) → k < count → get_or (operand_lanes operand count columns) k 0 ≡ operand_word operand (row_across columns k)
+pub operand_at : (operand : Operand) (count : ℕ) (columns : List (List ℕ)) (k : ℕ) → k < count → get_or (operand_lanes operand count columns) k 0 ≡ operand_word operand (row_across columns k)
 operand_at (Column column) count columns k h = sym (get_or-map (λ (words : List ℕ). get_or words k 0) columns column [])
 operand_at (Constant word) count columns k h = get_or-replicate count k word 0 h
 

@@ -7,14 +7,15 @@ ghost use Rattle.wires.specs.Growth.{Carries, Grows, lanes_of};
 ghost use Rattle.padded.specs.Table.{AreBits};
 ghost use Rattle.plain_operators.specs.Items.{holds_of};
 ghost use Rattle.plain_operators.specs.Operators.{kept_rows};
-ghost use Rattle.plain_operators.specs.Within.{AreTestsOf, IsOperandOf, IsTestOf};
+ghost use Rattle.plain_operators.specs.Within.{AreTestsOf, IsTestOf};
 ghost use Rattle.shared_ops.specs.Costs.{comparison_cost, tests_cost};
 ghost use Rattle.shared_ops.specs.Joint.{IsJoint, IsWide, Makes, column_words, joint_rows, valid_words};
-ghost use Rattle.shared_ops.specs.Lanes.{operand_lanes, test_lanes, valid_after};
+ghost use Rattle.shared_ops.specs.Lanes.{test_lanes, valid_after};
 
 use crate::compare::compare;
 use crate::joint::Joint;
-use plain_operators::{Operand, Test};
+use crate::operand::operand_wire;
+use plain_operators::Test;
 use std::alloc::AllocError;
 use wires::{Wire, Wires};
 
@@ -82,28 +83,4 @@ fn pass<W: Wires>(
     let flag = compare(wires, test.comparison, left, right)?;
     let new = wires.and(valid, flag)?;
     Ok(new)
-}
-
-// The wire of an operand: a column, or one of a word in each lane.
-fn operand_wire<W: Wires>(
-    wires: &mut W,
-    table: &Joint,
-    operand: Operand,
-) -> Result<Wire, AllocError>
-    requires joint { IsJoint (W.shape wires.old) table.now }
-    requires fits { IsOperandOf (length table.now.columns.items) operand }
-    ensures grows { Grows W.grown W.possible W.shape wires.old wires.new }
-    ensures ok { IfOk result (λ new. Carries (W.possible wires.new) (W.shape wires.new) new table.now.rows
-        (λ v. operand_lanes operand table.now.rows (column_words v table.now))) }
-    ensures cost { W.ands wires.new ≤ W.ands wires.old }
-{
-    match operand {
-        Operand::Column(column) => Ok(table.columns[column as usize]),
-        Operand::Constant(word) => {
-            let alloc = *table.columns.allocator();
-            let words = vec![in alloc; word; table.rows as usize]?;
-            let new = wires.constant(words.as_slice())?;
-            Ok(new)
-        }
-    }
 }

@@ -8,13 +8,28 @@
 //! bounded by the sizes.
 #![tactic(auto)]
 
+mod aggregate;
 mod compare;
 mod concat;
+mod distinct;
 mod filter;
+mod firsts;
+mod group;
+mod join;
 mod joint;
+mod matched;
+mod numbers;
+mod operand;
+mod pairs;
+mod seen;
+mod select;
 mod zeros;
 
 pub use concat::joint_concat;
+pub use distinct::joint_distinct;
 pub use filter::filter_by;
+pub use group::group_by;
+pub use join::join_by;
 pub use joint::Joint;
+pub use select::select_by;
 pub use zeros::zeroed;
