@@ -5,6 +5,10 @@
 #![tactic(auto)]
 
 #[cfg(test)]
+mod group_tests;
+#[cfg(test)]
 mod padded_tests;
+#[cfg(test)]
+mod select_join_tests;
 #[cfg(test)]
 mod shared_ops_tests;
