@@ -62,4 +62,5 @@ def main():
             print(number, hex(draw) if isinstance(draw, int) else draw)
 
 
-main()
+if __name__ == "__main__":
+    main()

@@ -46,7 +46,7 @@ module _ {T : Type 0} (accepts : T → List Shape → List Shape → Bool) (answ
     pub left_is : m.stop ≡ false → draws ≡ left
     pub going : m.stop ≡ false → GoesOn layout ss m left
 
-  few_behind : (l : Layout) (m : Machine) (s : Step T) (ds : ThreeTapes) → m.flags ≤ l.flags → (machine_step answer l m s ds).flags ≤ (grown l s).flags
+  pub few_behind : (l : Layout) (m : Machine) (s : Step T) (ds : ThreeTapes) → m.flags ≤ l.flags → (machine_step answer l m s ds).flags ≤ (grown l s).flags
   few_behind l m (Const words) ds h = h
   few_behind l m (Lin op) ds h = h
   few_behind l m (And left right) ds h = h

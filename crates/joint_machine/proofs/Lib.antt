@@ -24,3 +24,4 @@ pub mod Arms
 pub mod Ahead
 pub mod Copies
 pub mod Misfitting
+pub mod Fitting

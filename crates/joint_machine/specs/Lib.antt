@@ -4,4 +4,5 @@ pub mod Steps
 pub mod Opens
 pub mod Left
 pub mod Stepping
+pub mod Fitting
 pub mod Faults

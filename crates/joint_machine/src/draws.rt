@@ -88,10 +88,13 @@ pub(crate) fn draw_share<'a>(
 
 /// What a Reveal draws: an order and two masks for each phase.
 #[derive(Clone, Copy, Debug)]
-pub(crate) struct RevealDraws<'a> {
-    pub(crate) one: Drawn<'a>,
-    pub(crate) two: Drawn<'a>,
-    pub(crate) three: Drawn<'a>,
+pub struct RevealDraws<'a> {
+    /// Of the first party's phase.
+    pub one: Drawn<'a>,
+    /// Of the second party's.
+    pub two: Drawn<'a>,
+    /// Of the third party's.
+    pub three: Drawn<'a>,
 }
 
 // How many words so many registers have. More than 2^64 - 1 are more than memory holds draws, and count as want of
@@ -160,7 +163,7 @@ fn reveal_third<'a>(
 }
 
 /// What a Reveal of so many registers draws.
-pub(crate) fn draw_reveal<'a>(
+pub fn draw_reveal<'a>(
     tapes: &mut Three<Cursor<'a>>,
     moved: usize,
     rows: usize,
@@ -196,10 +199,13 @@ pub(crate) fn draw_reveal<'a>(
 
 /// What a Steer draws: an order and two masks for the first phase, two masks for the second one.
 #[derive(Clone, Copy, Debug)]
-pub(crate) struct SteerDraws<'a> {
-    pub(crate) one: Drawn<'a>,
-    pub(crate) mask: &'a [u64],
-    pub(crate) other: &'a [u64],
+pub struct SteerDraws<'a> {
+    /// Of the phase whose order is drawn.
+    pub one: Drawn<'a>,
+    /// What masks the words that the steering party takes.
+    pub mask: &'a [u64],
+    /// What masks the words that it gives back.
+    pub other: &'a [u64],
 }
 
 // Of a Steer what is drawn of the party's own tape, the next one and the one before.
@@ -238,7 +244,7 @@ fn steer_draws<'a>(
 }
 
 /// What a party's Steer of so many registers draws.
-pub(crate) fn draw_steer<'a>(
+pub fn draw_steer<'a>(
     tapes: &mut Three<Cursor<'a>>,
     by: Party,
     moved: usize,

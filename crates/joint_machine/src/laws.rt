@@ -1,4 +1,5 @@
-//! The law of the joint machine. The function does nothing, and its contract is the law.
+//! The laws of the joint machine. Each function does nothing, and its contract is the law.
+ghost use Rattle.joint_machine.specs.Fitting.{StepsFit};
 ghost use Rattle.joint_machine.specs.Opens.{SharesAreLong, SharesAreOpened};
 
 use lanes::{item_laws, lane_laws, shared_and_laws, xor_laws};
@@ -11,6 +12,18 @@ use tapes::order_laws;
 pub fn opened_laws<T: Task>()
     ensures opened { SharesAreOpened T.accepts T.answer }
     ensures long { SharesAreLong T.accepts T.answer }
+{
+    lane_laws();
+    item_laws();
+    xor_laws();
+    shared_and_laws();
+    order_laws();
+}
+
+/// For a caller that goes step by step: a machine fits the layout before the first step; where it fits, it is ready for
+/// each step that may come next and has its draws, and behind the step it fits the layout that the step has grown.
+pub fn steps_fit<T: Task>()
+    ensures { StepsFit T.accepts T.answer }
 {
     lane_laws();
     item_laws();

@@ -17,5 +17,10 @@ mod shown;
 mod steer;
 mod steps;
 
+pub use draws::{RevealDraws, SteerDraws, draw_reveal, draw_steer};
 pub use joint::{JointFault, JointRun, joint_run};
-pub use laws::opened_laws;
+pub use laws::{opened_laws, steps_fit};
+pub use machine::Machine;
+pub use phases::{Drawn as PhaseDrawn, Turned, phase};
+pub use run::start;
+pub use shown::open;

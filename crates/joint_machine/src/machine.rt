@@ -18,7 +18,7 @@ use std::marker::Model;
 /// Three shares of each register, the slots of each party, the words on the links, how many flags were passed, and
 /// whether the next one stopped the run.
 #[derive(Debug, Drop)]
-pub(crate) struct Machine {
+pub struct Machine {
     registers: Vec<Three<Vec<u64>>>,
     slots: Three<Vec<Vec<u64>>>,
     links: Links,
@@ -59,7 +59,7 @@ impl Machine {
     }
 
     /// Whether a flag stopped the run.
-    pub(crate) fn is_stopped(&self) -> bool
+    pub fn is_stopped(&self) -> bool
         ensures { result ≡ self.now.stop }
     {
         self.stop
@@ -91,7 +91,7 @@ impl Machine {
     }
 
     /// The shares of a register.
-    pub(crate) fn register(&self, register: u32) -> &Three<Vec<u64>>
+    pub fn register(&self, register: u32) -> &Three<Vec<u64>>
         requires { register < length self.now.registers }
         ensures { lists result.now ≡ shares self.now register }
     {
@@ -118,7 +118,7 @@ impl Machine {
     }
 
     /// The words of a slot.
-    pub(crate) fn slot(&self, party: Party, slot: u32) -> &Vec<u64>
+    pub fn slot(&self, party: Party, slot: u32) -> &Vec<u64>
         requires { slot < length (at party self.now.slots) }
         ensures { result.now.items ≡ slot_of self.now party slot }
     {

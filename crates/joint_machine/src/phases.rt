@@ -19,12 +19,15 @@ use lanes::{Party, Three, item_laws, xor_into, xor_words};
 use std::alloc::{AllocError, Global};
 use tapes::Order;
 
-// Registers behind a phase, and what its two parties send.
-#[derive(Drop)]
-struct Turned {
-    shares: Vec<Three<Vec<u64>>>,
-    there: Vec<u64>,
-    back: Vec<u64>,
+/// Registers behind a phase, and what its two parties send.
+#[derive(Debug, Drop)]
+pub struct Turned {
+    /// The new shares of each register.
+    pub shares: Vec<Three<Vec<u64>>>,
+    /// What party j - 1 sends to party j.
+    pub there: Vec<u64>,
+    /// What party j sends to party j - 1.
+    pub back: Vec<u64>,
 }
 
 // An order applied to words, under a mask.
@@ -168,6 +171,28 @@ fn turn(
     Ok(turned)
 }
 
+/// A phase of party j on some registers, by a mask of tape j - 1 and one of tape j + 1. Own, after Laur, Willemson and
+/// Zhang (2011).
+pub fn phase(
+    alloc: Global,
+    j: Party,
+    order: &Order,
+    shares: &[Three<Vec<u64>>],
+    mask: &[u64],
+    other: &[u64],
+) -> Result<Turned, AllocError>
+    requires shares { HaveRows (length order.now) (map lists shares.now) }
+    requires mask { length mask.now ≡ length shares.now * length order.now }
+    requires other { length other.now ≡ length shares.now * length order.now }
+    ensures turned { IfOk result (λ made. IsTurned j order.now (map lists shares.now) mask.now other.now (map lists made.shares.items) made.there.items made.back.items) }
+    ensures rows { IfOk result (λ made. HaveRows (length order.now) (map lists made.shares.items)) }
+    ensures count { IfOk result (λ made. length made.shares.items ≡ length shares.now) }
+{
+    item_laws();
+    let turned = turn(alloc, j, order, shares, mask, other)?;
+    Ok(turned)
+}
+
 impl Machine {
     /// A phase of party j on some registers: the new shares, and what its two parties send.
     pub(crate) fn run_phase(
@@ -185,8 +210,7 @@ impl Machine {
         ensures rows { IfOk result (λ made. HaveRows (length order.now) (map lists made.items)) }
         ensures count { IfOk result (λ made. length made.items ≡ length shares.now) }
     {
-        item_laws();
-        let turned = turn(self.allocator(), j, order, shares, mask, other)?;
+        let turned = phase(self.allocator(), j, order, shares, mask, other)?;
         self.send(j.before(), j, &turned.there)?;
         self.send(j, j.before(), &turned.back)?;
         Ok(turned.shares)
@@ -195,7 +219,7 @@ impl Machine {
 
 impl Machine {
     /// The shares of some registers, in memory of their own.
-    pub(crate) fn moved_shares(&self, moved: &[u32]) -> Result<Vec<Three<Vec<u64>>>, AllocError>
+    pub fn moved_shares(&self, moved: &[u32]) -> Result<Vec<Three<Vec<u64>>>, AllocError>
         requires { (k : ℕ) → k < length moved.now → IsMade self.now (slice_index moved.now k) }
         ensures { IfOk result (λ made. map lists made.items ≡ map (shares self.now) moved.now) }
     {
@@ -220,8 +244,11 @@ fn copy_shares(alloc: Global, shares: &Three<Vec<u64>>) -> Result<Three<Vec<u64>
 
 /// What a phase draws: an order, a mask of tape j - 1 and one of tape j + 1.
 #[derive(Clone, Copy, Debug)]
-pub(crate) struct Drawn<'a> {
-    pub(crate) order: &'a Order,
-    pub(crate) mask: &'a [u64],
-    pub(crate) other: &'a [u64],
+pub struct Drawn<'a> {
+    /// The order of the phase.
+    pub order: &'a Order,
+    /// What masks the words that party j takes.
+    pub mask: &'a [u64],
+    /// What masks the words that it gives back.
+    pub other: &'a [u64],
 }

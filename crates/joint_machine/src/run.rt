@@ -39,8 +39,8 @@ fn copy_slots(alloc: Global, slots: &Vec<Vec<u64>>) -> Result<Vec<Vec<u64>>, All
     Ok(made)
 }
 
-// Before the first step: the first slots, in memory of their own.
-fn start(alloc: Global, slots: &Slots) -> Result<Machine, AllocError>
+/// The machine before the first step: the first slots, in memory of their own.
+pub fn start(alloc: Global, slots: &Slots) -> Result<Machine, AllocError>
     ensures machine { IfOk result (λ machine. machine ≡ before_steps slots.now) }
     ensures below { OnOk result ((p : Party) → AllByRecursion AreWords (at p slots.now)) }
 {

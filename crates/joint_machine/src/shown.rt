@@ -16,8 +16,8 @@ use crate::machine::Machine;
 use lanes::{Party, Three, item_laws, xor_into};
 use std::alloc::{AllocError, Global};
 
-// What three shares stand for.
-fn open(alloc: Global, shares: &Three<Vec<u64>>) -> Result<Vec<u64>, AllocError>
+/// What three shares stand for.
+pub fn open(alloc: Global, shares: &Three<Vec<u64>>) -> Result<Vec<u64>, AllocError>
     requires { HasRows (length shares.now.first.items) (lists shares.now) }
     ensures { IfOk result (λ words. words.items ≡ opened (lists shares.now)) }
 {

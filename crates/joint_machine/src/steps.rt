@@ -25,7 +25,7 @@ pub(crate) fn party_of(number: u8) -> Party
 
 impl Machine {
     /// Does a step that may come next; its draws come next on the tapes.
-    pub(crate) fn run_step<T: Task>(
+    pub fn run_step<T: Task>(
         &mut self,
         step: &Step<T>,
         tapes: &mut Three<Cursor<'_>>,

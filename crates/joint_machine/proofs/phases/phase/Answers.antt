@@ -1,5 +1,5 @@
 use Rattle.joint_machine.proofs.Revealing.{rows_turned, count_turned}
-use Rattle.joint_machine.proofs.machine.Machine.run_phase.Goals as goal
+use Rattle.joint_machine.proofs.phases.phase.Goals as goal
 
 pub returns-clause-rows : goal.returns-clause-rows
 returns-clause-rows c =
