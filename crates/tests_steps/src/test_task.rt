@@ -3,7 +3,7 @@
 
 ghost use Rattle.std.specs.Prelude.{◌≡◌, IfOk};
 ghost use Rattle.std.specs.List.{range_with_len};
-ghost use Rattle.tests_steps.specs.TestTask.{given, goes};
+ghost use Rattle.tests_steps.specs.TestTask.{given, goes, turned, turned_place};
 
 use std::alloc::{AllocError, Global};
 use step_lists::{Shape, Task};
@@ -15,6 +15,8 @@ pub enum TestTask {
     Doubles,
     /// The numbers of the words' places, which are an order.
     Counts,
+    /// The numbers of the words' places, turned by the first word: an order too.
+    Turns,
 }
 
 impl Task for TestTask {
@@ -50,6 +52,7 @@ fn goes(task: TestTask, take: Shape, give: Shape) -> bool
     match (task, take, give) {
         (TestTask::Doubles, Shape::Words(taken), Shape::Words(given)) => taken == given,
         (TestTask::Counts, Shape::Words(taken), Shape::OrderOf(given)) => taken == given,
+        (TestTask::Turns, Shape::Words(taken), Shape::OrderOf(given)) => taken == given,
         _ => false,
     }
 }
@@ -60,7 +63,31 @@ fn given(alloc: Global, task: TestTask, words: &[u64]) -> Result<Vec<u64>, Alloc
     match task {
         TestTask::Doubles => words.iter().map(|word| word.wrapping_mul(2)).collect(alloc),
         TestTask::Counts => counted(alloc, words.len()),
+        TestTask::Turns => turned(alloc, words),
     }
+}
+
+// The place so many behind one of `count` places, going round.
+fn turned_place(count: u64, by: u64, place: u64) -> u64
+    ensures { result ≡ turned_place count by place }
+{
+    let left = count.saturating_sub(place);
+    if by < left { place + by } else { by - left }
+}
+
+fn turned(alloc: Global, words: &[u64]) -> Result<Vec<u64>, AllocError>
+    ensures { IfOk result (λ places. places.items ≡ turned words.now) }
+{
+    let count = words.len() as u64;
+    let by = match words.first() {
+        Some(word) => *word % count,
+        None => 0,
+    };
+    let places = counted(alloc, words.len())?;
+    places
+        .iter()
+        .map(|place| turned_place(count, by, *place))
+        .collect(alloc)
 }
 
 fn counted(alloc: Global, count: usize) -> Result<Vec<u64>, AllocError>
