@@ -11,7 +11,7 @@ use Rattle.conclave_top.specs.Compile.{CompilesFile, HasGraph}
 use Rattle.conclave_top.specs.Due.{IsDue, IsDueOn}
 use Rattle.conclave_top.specs.Lines.{not_built}
 use Rattle.conclave_top.specs.Plain.{IsDueFor, IsDueOver, verdict_of}
-use Rattle.conclave_top.specs.Relations.{AreHeld, files_of}
+use Rattle.conclave_top.specs.Relations.{AreHeld, file_names}
 use Rattle.conclave_top.specs.Verdict.{Verdict, refuses, faults, prints}
 use Rattle.outside.specs.Folder.{Files}
 use Rattle.query_graph.specs.Content.{Content}
@@ -43,7 +43,7 @@ called_then first names (Some called) between after a b =
 
 -- the end over a graph's files is the end over the graph
 pub ended_over_graph : (files : Option Files) (graph : Content) (bytes : List (List ℕ)) (before after : Option (List ℕ)) (risen wider : Type 0) (end : End)
-    → AreHeld files (files_of graph.nodes) bytes → (risen → wider) → Ended (λ verdict. verdict ≡ verdict_of graph bytes) before after risen end → Ended (IsDueOver files graph) before after wider end
+    → AreHeld files (file_names graph.nodes) bytes → (risen → wider) → Ended (λ verdict. verdict ≡ verdict_of graph bytes) before after risen end → Ended (IsDueOver files graph) before after wider end
 ended_over_graph files graph bytes before after risen wider end held later ends =
     ended_within (λ verdict. verdict ≡ verdict_of graph bytes) (IsDueOver files graph) before after risen wider end (λ verdict is. record { bytes = bytes; held = held; is = is }) later ends
 

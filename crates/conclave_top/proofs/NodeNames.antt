@@ -28,9 +28,9 @@ use Rattle.words.specs.declared.column.Kind.TheVariants.{Flag}
 use Rattle.conclave_top.specs.declared.compile.Stop.{Stop}
 use Rattle.conclave_top.specs.Compile.{CompilesGraph}
 use Rattle.conclave_top.proofs.ReadFiles.{within_map}
-use Rattle.conclave_top.specs.Relations.{IsStored, file_of, files_of}
+use Rattle.conclave_top.specs.Relations.{IsStored, file_of, file_names}
 use Rattle.plain_meaning.specs.Fits.{relations}
-use Rattle.plain_meaning.specs.Meaning.{is_relation}
+use Rattle.query_graph.specs.Observers.{is_relation}
 
 and_left : (a b : Bool) → a && b ≡ true → a ≡ true
 and_left true b both = refl
@@ -107,5 +107,5 @@ lent_stored lent relations same all i d within =
     subst IsStored (get_or-map (λ node. node.now) lent i d d.now within) (subst (All IsStored) (sym same) all i d.now (within_map (λ node. node.now) lent i within))
 
 -- the names of lent relations' files
-pub lent_files : (lent : List (Bor Node)) (nodes : List Node) → map (λ node. node.now) lent ≡ relations nodes → map (λ node. file_of node.now) lent ≡ files_of nodes
+pub lent_files : (lent : List (Bor Node)) (nodes : List Node) → map (λ node. node.now) lent ≡ relations nodes → map (λ node. file_of node.now) lent ≡ file_names nodes
 lent_files lent nodes same = sym (map-map file_of (λ (node : Bor Node). node.now) lent) ∙ ap (map file_of) same

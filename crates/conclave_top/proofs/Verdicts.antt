@@ -9,12 +9,12 @@ use Rattle.query_graph.specs.Content.{Content}
 use Rattle.query_graph.specs.declared.fault.GraphFault.{GraphFault}
 use Rattle.conclave_top.specs.Bounds.{first_bound}
 use Rattle.conclave_top.specs.Command.{Command, plain, plan, query_of}
-use Rattle.conclave_top.specs.Compile.{HasGraph, HasRefusal, IsCompiled, IsRefused, graph_refusal, refusal_of}
+use Rattle.conclave_top.specs.Compile.{HasGraph, HasRefusal, IsCompiled, IsRefusedText, graph_refusal, refusal_of}
 use Rattle.conclave_top.specs.Due.{IsDueOn}
 use Rattle.conclave_top.specs.Laws.{OneVerdict, SomeVerdict}
 use Rattle.conclave_top.specs.Lines.{graph_refused, not_built, text_refused}
 use Rattle.conclave_top.specs.Plain.{IsDueFor, IsDueOver, IsPlainDue, verdict_of}
-use Rattle.conclave_top.specs.Relations.{files_of}
+use Rattle.conclave_top.specs.Relations.{file_names}
 use Rattle.conclave_top.specs.Verdict.{Verdict, refuses}
 
 same_of_some : {A : Type 0} (x y : A) → Some x ≡ Some y → x ≡ y
@@ -31,7 +31,7 @@ same_of_somes (x ∷ xs) (y ∷ ys) same =
     rw (first, same_of_somes xs ys others) refl
 
 -- a text is refused with one line
-same_refusal : HasOneReading → (text line other : List ℕ) → IsRefused text line → IsRefused text other → line ≡ other
+same_refusal : HasOneReading → (text line other : List ℕ) → IsRefusedText text line → IsRefusedText text other → line ≡ other
 same_refusal reading text line other (inl a) (inl b) =
     let place = (reading text).3 a.line a.column b.line b.column a.fault b.fault in
     a.says ∙ ap (λ n. text_refused n a.column) place.0 ∙ ap (text_refused b.line) place.1 ∙ sym b.says
@@ -45,7 +45,7 @@ some_is_not_none : {A : Type 0} (x : A) (o : Option A) → o ≡ Some x → o �
 some_is_not_none x o some none = cc
 
 -- and it isn't compiled then
-not_both : HasOneReading → (text line : List ℕ) (graph : Content) → IsRefused text line → IsCompiled text graph → ⊥
+not_both : HasOneReading → (text line : List ℕ) (graph : Content) → IsRefusedText text line → IsCompiled text graph → ⊥
 not_both reading text line graph (inl a) compiled = (reading text).2 compiled.has.statements a.line a.column compiled.has.read a.fault
 not_both reading text line graph (inr a) compiled =
     let same : a.statements ≡ compiled.has.statements = (reading text).1 a.statements compiled.has.statements a.read compiled.has.read in
@@ -78,8 +78,8 @@ same_on files (plan query) graph first second a b = a ∙ sym b
 same_text : (files : Files) (query text other : List ℕ) → files query ≡ Some text → files query ≡ Some other → text ≡ other
 same_text files query text other first second = same_of_some text other (sym first ∙ second)
 
-has_refusal : (files : Files) (query line text : List ℕ) → (has : HasRefusal (Some files) query line) → files query ≡ Some text → IsRefused text line
-has_refusal files query line text has held = subst (λ t. IsRefused t line) (same_text files query has.text text has.held held) has.refused
+has_refusal : (files : Files) (query line text : List ℕ) → (has : HasRefusal (Some files) query line) → files query ≡ Some text → IsRefusedText text line
+has_refusal files query line text has held = subst (λ t. IsRefusedText t line) (same_text files query has.text text has.held held) has.refused
 
 has_graph : (files : Files) (query text : List ℕ) (graph : Content) → (has : HasGraph (Some files) query graph) → files query ≡ Some text → IsCompiled text graph
 has_graph files query text graph has held = subst (λ t. IsCompiled t graph) (same_text files query has.text text has.held held) has.compiled
@@ -109,19 +109,19 @@ each_query statements (Ok graph) is = each_graph statements graph is (graph_refu
 -- each text is refused or compiled
 of_query : (text : List ℕ) (statements : List Statement) → IsQuery text statements
     → ((line : List ℕ) × (refusal_of (graph_of statements) ≡ Some line)) ⊎ ((graph : Content) × (graph_of statements ≡ Ok graph) × (refusal_of (graph_of statements) ≡ None))
-    → ((line : List ℕ) × IsRefused text line) ⊎ ((graph : Content) × IsCompiled text graph)
+    → ((line : List ℕ) × IsRefusedText text line) ⊎ ((graph : Content) × IsCompiled text graph)
 of_query text statements read (inl refused) = inl (refused.0, inr (record { statements = statements; read = read; refused = refused.1 }))
 of_query text statements read (inr built) = inr (built.0, record { has = record { statements = statements; read = read; built = built.1 }; passes = sym (ap refusal_of built.1) ∙ built.2 })
 
 of_reading : (text : List ℕ) → ((q : List Statement) × IsQuery text q) ⊎ ((line : ℕ) × (column : ℕ) × IsFaultAt text line column)
-    → ((line : List ℕ) × IsRefused text line) ⊎ ((graph : Content) × IsCompiled text graph)
+    → ((line : List ℕ) × IsRefusedText text line) ⊎ ((graph : Content) × IsCompiled text graph)
 of_reading text (inl q) = of_query text q.0 q.1 (each_query q.0 (graph_of q.0) refl)
 of_reading text (inr f) = inl (text_refused f.0 f.1, inl (record { line = f.0; column = f.1; fault = f.2; says = refl }))
 
 due_bounded : (files : Files) (graph : Content) (line : ℕ) → first_bound graph.nodes ≡ Some line → IsPlainDue (Some files) graph (refuses (not_built line))
 due_bounded files graph line bound = subst (λ o. IsDueFor (Some files) graph o (refuses (not_built line))) (sym bound) refl
 
-due_answered : (files : Files) (graph : Content) (bytes : List (List ℕ)) → first_bound graph.nodes ≡ None → map files (files_of graph.nodes) ≡ map Some bytes → IsPlainDue (Some files) graph (verdict_of graph bytes)
+due_answered : (files : Files) (graph : Content) (bytes : List (List ℕ)) → first_bound graph.nodes ≡ None → map files (file_names graph.nodes) ≡ map Some bytes → IsPlainDue (Some files) graph (verdict_of graph bytes)
 due_answered files graph bytes none all =
     subst (λ o. IsDueFor (Some files) graph o (verdict_of graph bytes)) (sym none) (record { bytes = bytes; held = all; is = refl })
 

@@ -5,7 +5,7 @@ use Rattle.query_graph.specs.Content.{Content}
 use Rattle.conclave_top.specs.Bounds.{first_bound}
 use Rattle.conclave_top.specs.Command.{Command, plain, plan}
 use Rattle.conclave_top.specs.Compile.{HasGraph}
-use Rattle.conclave_top.specs.Relations.{files_of}
+use Rattle.conclave_top.specs.Relations.{file_names}
 
 -- these names were called, in order, behind those before
 abbrev pub Called : List (List ℕ) → Option (List (List ℕ)) → Option (List (List ℕ)) → Type 0
@@ -21,7 +21,7 @@ pub record CalledRelations (files : Option Files) (query : List ℕ) (before aft
   pub graph : Content
   pub has : HasGraph files query graph
   pub unbounded : first_bound graph.nodes ≡ None
-  pub calls : CalledFront (query ∷ files_of graph.nodes) before after
+  pub calls : CalledFront (query ∷ file_names graph.nodes) before after
 
 -- the query's name was called or nothing, or behind it the names of its relations' files, or the first of them
 abbrev pub PlainCalls : Option Files → List ℕ → Option (List (List ℕ)) → Option (List (List ℕ)) → Type 0

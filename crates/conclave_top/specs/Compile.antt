@@ -38,8 +38,8 @@ pub record IsRefusedQuery (text refusal : List ℕ) : Type 0 where
   pub refused : refusal_of (graph_of statements) ≡ Some refusal
 
 -- a text is refused with this line
-abbrev pub IsRefused : List ℕ → List ℕ → Type 0
-IsRefused text refusal = IsNoQuery text refusal ⊎ IsRefusedQuery text refusal
+abbrev pub IsRefusedText : List ℕ → List ℕ → Type 0
+IsRefusedText text refusal = IsNoQuery text refusal ⊎ IsRefusedQuery text refusal
 
 -- a text has this graph, which isn't refused
 pub record IsCompiled (text : List ℕ) (graph : Content) : Type 0 where
@@ -59,7 +59,7 @@ CompilesQuery statements (Err Memory) = ⊤
 
 abbrev pub Compiles : List ℕ → Result Content Stop → Type 0
 Compiles text (Ok graph) = IsCompiled text graph
-Compiles text (Err (Refused line)) = IsRefused text line.items
+Compiles text (Err (Refused line)) = IsRefusedText text line.items
 Compiles text (Err Memory) = ⊤
 
 -- the file of this name has a text with this graph
@@ -72,7 +72,7 @@ pub record HasGraph (files : Option Files) (query : List ℕ) (graph : Content) 
 pub record HasRefusal (files : Option Files) (query refusal : List ℕ) : Type 0 where
   pub text : List ℕ
   pub held : Holds files query text
-  pub refused : IsRefused text refusal
+  pub refused : IsRefusedText text refusal
 
 -- what compiling the text of a file gives, or how the command ends
 abbrev pub CompilesFile : Option Files → List ℕ → Type 0 → Result Content End → Type 0

@@ -4,14 +4,14 @@ use Rattle.outside.specs.Folder.{Files}
 use Rattle.query_graph.specs.Content.{Content}
 use Rattle.conclave_top.specs.Bounds.{first_bound}
 use Rattle.conclave_top.specs.Command.{Command, plain, plan, command_of, query_of}
-use Rattle.conclave_top.specs.Compile.{IsCompiled, IsRefused}
+use Rattle.conclave_top.specs.Compile.{IsCompiled, IsRefusedText}
 use Rattle.conclave_top.specs.Due.{IsDue}
 use Rattle.conclave_top.specs.Lines.{not_built}
 use Rattle.conclave_top.specs.Outcome.{Outcome, Settles}
 use Rattle.conclave_top.specs.Outside.{Outside, HasFailed}
 use Rattle.conclave_top.specs.Plain.{verdict_of}
 use Rattle.conclave_top.specs.PlanText.{plan_text}
-use Rattle.conclave_top.specs.Relations.{files_of}
+use Rattle.conclave_top.specs.Relations.{file_names}
 use Rattle.conclave_top.specs.Verdict.{Verdict, refuses, faults, prints}
 
 -- a status that is due comes, if neither a count rose nor memory failed
@@ -53,11 +53,11 @@ OneVerdict = (files : Files) (command : Command) (first second : Verdict) → Is
 -- and one is due where the query's file is there and it is refused, or it is compiled and for `plain` has a bound or
 -- all its relations' files are there
 pub record SomeVerdict : Type 0 where
-  pub refused : (files : Files) (command : Command) (text line : List ℕ) → files (query_of command) ≡ Some text → IsRefused text line → IsDue (Some files) command (refuses line)
+  pub refused : (files : Files) (command : Command) (text line : List ℕ) → files (query_of command) ≡ Some text → IsRefusedText text line → IsDue (Some files) command (refuses line)
   pub planned : (files : Files) (query text : List ℕ) (graph : Content) → files query ≡ Some text → IsCompiled text graph → IsDue (Some files) (plan query) (prints (plan_text graph))
   pub bounded : (files : Files) (query text : List ℕ) (graph : Content) (line : ℕ) → files query ≡ Some text → IsCompiled text graph → first_bound graph.nodes ≡ Some line
       → IsDue (Some files) (plain query) (refuses (not_built line))
   pub answered : (files : Files) (query text : List ℕ) (graph : Content) (bytes : List (List ℕ)) → files query ≡ Some text → IsCompiled text graph → first_bound graph.nodes ≡ None
-      → map files (files_of graph.nodes) ≡ map Some bytes → IsDue (Some files) (plain query) (verdict_of graph bytes)
+      → map files (file_names graph.nodes) ≡ map Some bytes → IsDue (Some files) (plain query) (verdict_of graph bytes)
   -- each text is refused or compiled
-  pub each : (text : List ℕ) → ((line : List ℕ) × IsRefused text line) ⊎ ((graph : Content) × IsCompiled text graph)
+  pub each : (text : List ℕ) → ((line : List ℕ) × IsRefusedText text line) ⊎ ((graph : Content) × IsCompiled text graph)

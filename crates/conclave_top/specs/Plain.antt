@@ -7,7 +7,7 @@ use Rattle.plain_meaning.specs.Fits.{relations}
 use Rattle.conclave_top.specs.Answers.{printed}
 use Rattle.conclave_top.specs.Bounds.{first_bound}
 use Rattle.conclave_top.specs.Lines.{not_built}
-use Rattle.conclave_top.specs.Relations.{AreHeld, files_of, tables_of}
+use Rattle.conclave_top.specs.Relations.{AreHeld, file_names, tables_of}
 use Rattle.conclave_top.specs.Verdict.{Verdict, refuses, faults, prints}
 
 abbrev pub told : Content → Result (List table.Content) (List ℕ) → Verdict
@@ -21,7 +21,7 @@ verdict_of graph bytes = told graph (tables_of (relations graph.nodes) bytes)
 -- the same, where a folder holds these bytes
 pub record IsDueOver (files : Option Files) (graph : Content) (verdict : Verdict) : Type 0 where
   pub bytes : List (List ℕ)
-  pub held : AreHeld files (files_of graph.nodes) bytes
+  pub held : AreHeld files (file_names graph.nodes) bytes
   pub is : verdict ≡ verdict_of graph bytes
 
 -- with a bound a graph is refused, with the line of the first; without one it is answered

@@ -26,8 +26,8 @@ pub record IsStored (node : Node) : Type 0 where
   pub columns : All (λ (c : Column). c.kind ≢ Flag) node.columns
 
 -- the names of the files of all relations
-abbrev pub files_of : List Node → List (List ℕ)
-files_of nodes = map file_of (relations nodes)
+abbrev pub file_names : List Node → List (List ℕ)
+file_names nodes = map file_of (relations nodes)
 
 -- a folder that tells its files has these bytes under these names
 abbrev pub AreHeld : Option Files → List (List ℕ) → List (List ℕ) → Type 0

@@ -9,7 +9,7 @@ ghost use Rattle.conclave_top.specs.Command.{plain};
 ghost use Rattle.conclave_top.specs.Due.{IsDue};
 ghost use Rattle.conclave_top.specs.End.{Ended};
 ghost use Rattle.conclave_top.specs.Plain.{IsDueOver, verdict_of};
-ghost use Rattle.conclave_top.specs.Relations.{files_of, tables_of};
+ghost use Rattle.conclave_top.specs.Relations.{file_names, tables_of};
 ghost use Rattle.conclave_top.specs.Verdict.{prints};
 ghost use Rattle.plain_meaning.specs.Fits.{AreFiles, relations};
 
@@ -51,7 +51,7 @@ fn over_graph<F: Folder, O: Sink>(alloc: Global, graph: &Graph, files: &mut F, o
     requires unbounded { first_bound graph.now.nodes ≡ None }
     ensures end { Ended (IsDueOver (F.files files.old) graph.now) (O.taken out.old) (O.taken out.new)
         (Rose (F.faults files.old) (F.faults files.new) ⊎ Rose (O.faults out.old) (O.faults out.new)) result }
-    ensures calls { CalledFront (files_of graph.now.nodes) (F.calls files.old) (F.calls files.new) }
+    ensures calls { CalledFront (file_names graph.now.nodes) (F.calls files.old) (F.calls files.new) }
     ensures kept { F.files files.new ≡ F.files files.old }
 {
     let Ok(names) = file_names(alloc, graph) else {

@@ -4,13 +4,12 @@ ghost use Rattle.std.specs.Prelude.{◌≡◌, List, map, IfOk, IsErrOf, All, le
 ghost use Rattle.std.specs.Str.{IsUtf8};
 ghost use Rattle.outside.specs.Cause.{HasCause};
 ghost use Rattle.plain_meaning.specs.Fits.{relations};
-ghost use Rattle.plain_meaning.specs.Meaning.{is_relation};
 ghost use Rattle.conclave_top.specs.Calls.{CalledFront};
-ghost use Rattle.conclave_top.specs.Relations.{AreHeld, IsStored, files_of, GivesTable, GivesTables, file_of, table_of, tables_of};
+ghost use Rattle.conclave_top.specs.Relations.{AreHeld, IsStored, file_names, GivesTable, GivesTables, file_of, table_of, tables_of};
 
 use crate::lines::file_line;
 use outside::{Folder, FolderFault};
-use query_graph::{Graph, Node, Operator};
+use query_graph::{Graph, Node};
 use std::alloc::{AllocError, AllocFailed, Global};
 use std::str;
 use tables::{Table, TableFault, read_table};
@@ -53,22 +52,16 @@ fn relations_of<'a>(alloc: Global, nodes: &'a [Node]) -> Result<Vec<&'a Node>, A
 {
     let mut relations = Vec::new(alloc);
     for node in nodes {
-        if is_relation(&node.shape) {
+        if node.shape.is_relation() {
             relations.push(node)?;
         }
     }
     Ok(relations)
 }
 
-fn is_relation(shape: &Operator) -> bool
-    ensures { result ≡ is_relation shape.now }
-{
-    matches!(shape, Operator::Relation(_))
-}
-
 /// The names of the files of a graph's relations, in the order of the text.
 pub(crate) fn file_names(alloc: Global, graph: &Graph) -> Result<Vec<String>, AllocError>
-    ensures { IfOk result (λ names. map string_bytes names.items ≡ files_of graph.now.nodes) }
+    ensures { IfOk result (λ names. map string_bytes names.items ≡ file_names graph.now.nodes) }
 {
     let relations = relations_of(alloc, graph.nodes())?;
     names_of(alloc, &relations)

@@ -20,8 +20,8 @@ abbrev pub failing_of : MemoryFolder → List ℕ
 failing_of folder = folder.failing.items
 
 -- how many calls failed so far
-abbrev pub faults_of : MemoryFolder → ℕ
-faults_of folder = folder.faults
+abbrev pub failed_calls : MemoryFolder → ℕ
+failed_calls folder = folder.faults
 
 -- the files made of pairs of a name and its bytes, where a later pair replaces an earlier one
 abbrev pub files_made : List (String Global × Vec ℕ Global) → Files

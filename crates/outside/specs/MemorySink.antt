@@ -17,8 +17,8 @@ abbrev pub writes_of : MemorySink → ℕ
 writes_of sink = sink.writes
 
 -- how many writes failed so far
-abbrev pub faults_of : MemorySink → ℕ
-faults_of sink = sink.faults
+abbrev pub failed_writes : MemorySink → ℕ
+failed_writes sink = sink.faults
 
 -- the next write is listed among those that fail
 abbrev pub is_listed : MemorySink → Bool

@@ -20,18 +20,18 @@ pub struct DiskFolder<'a, R> {
 }
 
 impl<'a, R: Files + AllocGlobal> DiskFolder<'a, R> {
-    ghost use Rattle.outside.specs.DiskFolder.{faults_of};
+    ghost use Rattle.outside.specs.DiskFolder.{failed_calls};
 
     /// The current folder, with no fault so far.
     pub fn new(runtime: &'a R) -> DiskFolder<'a, R>
-        ensures { faults_of result ≡ 0 }
+        ensures { failed_calls result ≡ 0 }
     {
         DiskFolder { runtime, faults: 0 }
     }
 
     /// What a folder answers to this error, which it counts where it is a failure.
     fn fault_of(&mut self, kind: ErrorKind) -> FolderFault
-        ensures { HasCause (faults_of self.old) (faults_of self.new) (result ≡ FolderFault.Failed) }
+        ensures { HasCause (failed_calls self.old) (failed_calls self.new) (result ≡ FolderFault.Failed) }
     {
         if kind == ErrorKind::OutOfMemory {
             return FolderFault::Memory;
@@ -43,13 +43,13 @@ impl<'a, R: Files + AllocGlobal> DiskFolder<'a, R> {
 
 impl<'a, R: Files + AllocGlobal> Folder for DiskFolder<'a, R> {
     ghost use Rattle.std.specs.Prelude.{None};
-    ghost use Rattle.outside.specs.DiskFolder.{faults_of};
+    ghost use Rattle.outside.specs.DiskFolder.{failed_calls};
 
     ghost files = { λ _. None };
 
     ghost calls = { λ _. None };
 
-    ghost faults = { faults_of };
+    ghost faults = { failed_calls };
 
     fn read(&mut self, name: &str) -> Result<Vec<u8>, FolderFault> {
         match read_file(self.runtime, name) {

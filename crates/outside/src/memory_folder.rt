@@ -20,7 +20,7 @@ pub struct MemoryFolder {
 }
 
 impl MemoryFolder {
-    ghost use Rattle.outside.specs.MemoryFolder.{files_of, calls_of, failing_of, faults_of, files_made, is_listed};
+    ghost use Rattle.outside.specs.MemoryFolder.{files_of, calls_of, failing_of, failed_calls, files_made, is_listed};
 
     /// A folder of these files that fails at the calls of these numbers. A later file of the same name replaces an
     /// earlier one.
@@ -32,7 +32,7 @@ impl MemoryFolder {
         ensures files { IfOk result (λ folder. files_of folder ≡ files_made files.items) }
         ensures calls { IfOk result (λ folder. calls_of folder ≡ []) }
         ensures failing { IfOk result (λ folder. failing_of folder ≡ failing.items) }
-        ensures faults { IfOk result (λ folder. faults_of folder ≡ 0) }
+        ensures faults { IfOk result (λ folder. failed_calls folder ≡ 0) }
     {
         let mut map = BTreeMap::new(alloc);
         for (name, bytes) in files {
@@ -78,21 +78,21 @@ impl MemoryFolder {
 
 impl Folder for MemoryFolder {
     ghost use Rattle.std.specs.Prelude.{Some};
-    ghost use Rattle.outside.specs.MemoryFolder.{files_of, calls_of, failing_of, faults_of, faults_after, is_listed, FailsExactly};
+    ghost use Rattle.outside.specs.MemoryFolder.{files_of, calls_of, failing_of, failed_calls, faults_after, is_listed, FailsExactly};
 
     ghost files = { λ folder. Some (files_of folder) };
 
     ghost calls = { λ folder. Some (calls_of folder) };
 
-    ghost faults = { faults_of };
+    ghost faults = { failed_calls };
 
     fn read(&mut self, name: &str) -> Result<Vec<u8>, FolderFault>
         ensures bytes { IfOk result (λ bytes. Holds (Some (files_of self.old)) name.now bytes.items) }
         ensures same { files_of self.new ≡ files_of self.old }
         ensures calls { Some (calls_of self.new) ≡ called name.now result (Some (calls_of self.old)) }
-        ensures cause { HasCause (faults_of self.old) (faults_of self.new) (IsErrOf result FolderFault.Failed) }
+        ensures cause { HasCause (failed_calls self.old) (failed_calls self.new) (IsErrOf result FolderFault.Failed) }
         ensures exact { FailsExactly (is_listed self.old || is_none (files_of self.old name.now)) result }
-        ensures counted { faults_of self.new ≡ faults_after result (faults_of self.old) }
+        ensures counted { failed_calls self.new ≡ faults_after result (failed_calls self.old) }
         ensures list { failing_of self.new ≡ failing_of self.old }
     {
         let noted = String::from_str(self.alloc, name)?;
@@ -113,9 +113,9 @@ impl Folder for MemoryFolder {
         ensures written { OnOk result (Some (files_of self.new) ≡ option_map (written name.now bytes.now) (Some (files_of self.old))) }
         ensures err { OnErr result (files_of self.new ≡ files_of self.old) }
         ensures calls { Some (calls_of self.new) ≡ called name.now result (Some (calls_of self.old)) }
-        ensures cause { HasCause (faults_of self.old) (faults_of self.new) (IsErrOf result FolderFault.Failed) }
+        ensures cause { HasCause (failed_calls self.old) (failed_calls self.new) (IsErrOf result FolderFault.Failed) }
         ensures exact { FailsExactly (is_listed self.old) result }
-        ensures counted { faults_of self.new ≡ faults_after result (faults_of self.old) }
+        ensures counted { failed_calls self.new ≡ faults_after result (failed_calls self.old) }
         ensures list { failing_of self.new ≡ failing_of self.old }
     {
         let noted = String::from_str(self.alloc, name)?;

@@ -16,14 +16,14 @@ pub struct MemorySink {
 }
 
 impl MemorySink {
-    ghost use Rattle.outside.specs.MemorySink.{bytes_of, failing_of, writes_of, faults_of, is_listed};
+    ghost use Rattle.outside.specs.MemorySink.{bytes_of, failing_of, writes_of, failed_writes, is_listed};
 
     /// An empty stream that fails at the writes of these numbers.
     pub fn new(alloc: Global, failing: Vec<u64>) -> MemorySink
         ensures bytes { bytes_of result ≡ [] }
         ensures failing { failing_of result ≡ failing.items }
         ensures writes { writes_of result ≡ 0 }
-        ensures faults { faults_of result ≡ 0 }
+        ensures faults { failed_writes result ≡ 0 }
     {
         MemorySink {
             bytes: Vec::new(alloc),
@@ -48,19 +48,19 @@ impl MemorySink {
 }
 
 impl Sink for MemorySink {
-    ghost use Rattle.outside.specs.MemorySink.{bytes_of, faults_of, faults_after, is_listed, writes_of, writes_after, failing_of, FailsExactly};
+    ghost use Rattle.outside.specs.MemorySink.{bytes_of, failed_writes, faults_after, is_listed, writes_of, writes_after, failing_of, FailsExactly};
     ghost use Rattle.std.specs.Prelude.{Some};
 
     ghost taken = { λ sink. Some (bytes_of sink) };
 
-    ghost faults = { faults_of };
+    ghost faults = { failed_writes };
 
     fn write(&mut self, bytes: &[u8]) -> Result<(), OutFault>
         ensures written { OnOk result (Some (bytes_of self.new) ≡ option_map (λ before. before ++ bytes.now) (Some (bytes_of self.old))) }
         ensures err { OnErr result (bytes_of self.new ≡ bytes_of self.old) }
-        ensures cause { HasCause (faults_of self.old) (faults_of self.new) (IsErrOf result OutFault.Failed) }
+        ensures cause { HasCause (failed_writes self.old) (failed_writes self.new) (IsErrOf result OutFault.Failed) }
         ensures exact { FailsExactly (is_listed self.old) result }
-        ensures counted { faults_of self.new ≡ faults_after result (faults_of self.old) }
+        ensures counted { failed_writes self.new ≡ faults_after result (failed_writes self.old) }
         ensures list { failing_of self.new ≡ failing_of self.old }
         ensures writes { writes_of self.new ≡ writes_after result (writes_of self.old) }
     {

@@ -20,11 +20,11 @@ pub struct StdSink<'a, R> {
 }
 
 impl<'a, R: Print + Eprint> StdSink<'a, R> {
-    ghost use Rattle.outside.specs.StdSink.{faults_of};
+    ghost use Rattle.outside.specs.StdSink.{failed_writes};
 
     /// The standard output, with no fault so far.
     pub fn out(runtime: &'a R) -> StdSink<'a, R>
-        ensures { faults_of result ≡ 0 }
+        ensures { failed_writes result ≡ 0 }
     {
         StdSink {
             runtime,
@@ -35,7 +35,7 @@ impl<'a, R: Print + Eprint> StdSink<'a, R> {
 
     /// The standard error, with no fault so far. It takes text alone: bytes that aren't UTF-8 are a failure.
     pub fn err(runtime: &'a R) -> StdSink<'a, R>
-        ensures { faults_of result ≡ 0 }
+        ensures { failed_writes result ≡ 0 }
     {
         StdSink {
             runtime,
@@ -56,7 +56,7 @@ impl<'a, R: Print + Eprint> StdSink<'a, R> {
 
     /// What a stream answers to this error, which it counts where it is a failure.
     fn fault_of(&mut self, kind: ErrorKind) -> OutFault
-        ensures { HasCause (faults_of self.old) (faults_of self.new) (result ≡ OutFault.Failed) }
+        ensures { HasCause (failed_writes self.old) (failed_writes self.new) (result ≡ OutFault.Failed) }
     {
         if kind == ErrorKind::OutOfMemory {
             return OutFault::Memory;
@@ -68,11 +68,11 @@ impl<'a, R: Print + Eprint> StdSink<'a, R> {
 
 impl<'a, R: Print + Eprint> Sink for StdSink<'a, R> {
     ghost use Rattle.std.specs.Prelude.{None};
-    ghost use Rattle.outside.specs.StdSink.{faults_of};
+    ghost use Rattle.outside.specs.StdSink.{failed_writes};
 
     ghost taken = { λ _. None };
 
-    ghost faults = { faults_of };
+    ghost faults = { failed_writes };
 
     fn write(&mut self, bytes: &[u8]) -> Result<(), OutFault> {
         match self.put(bytes) {

@@ -27,8 +27,7 @@ use Rattle.plain_operators.specs.Sizes.{joined_width}
 use Rattle.plain_operators.specs.Within.{HasColumns, IsAggregateOf, IsItemOf, IsOperandOf, IsTestOf}
 use Rattle.plain_meaning.specs.Convert.{aggregate_of, item_of, operand_of, test_of}
 use Rattle.plain_meaning.specs.Fits.{FitsEarlier, FitsRelation, width_at, widths_before, widths_of}
-use Rattle.plain_meaning.specs.Meaning.{is_relation}
-use Rattle.plain_operators.proofs.Lists.{map_map}
+use Rattle.query_graph.specs.Observers.{is_relation}
 use Rattle.plain_meaning.proofs.Others.{others_count}
 
 operand_fits : (columns : List Column) (kind : Kind) (operand : graph_operand.Operand) → graph.IsOperandOf columns kind operand → IsOperandOf (length columns) (operand_of operand)
@@ -173,6 +172,10 @@ module _ (nodes : List Node) (i : ℕ) (short : i ≤ length nodes) where
   pub fits_before : (files : List (List (List ℕ))) (n : Node) → (is_relation n.shape ≡ true → FitsRelation files (length n.columns)) → graph.IsNode nodes i n
       → FitsEarlier files (widths_before nodes i) (length n.columns) n.shape
   fits_before files n first h = fits_shape files n n.shape first h.sources
+
+map_map : {X Y Z : Type 0} (g : Y → Z) (f : X → Y) (xs : List X) → map g (map f xs) ≡ map (λ x. g (f x)) xs
+map_map g f [] = refl
+map_map g f (x ∷ xs) = ap (λ l. g (f x) ∷ l) (map_map g f xs)
 
 -- tables with the columns of the first nodes
 pub fits_node : (nodes : List Node) (i : ℕ) (tables : List Content) → i ≤ length nodes → map (λ t. t.columns) tables ≡ map (λ n. n.columns) (take i nodes)

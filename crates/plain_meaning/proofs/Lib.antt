@@ -1,9 +1,10 @@
 pub mod Constants
 pub mod Files
 pub mod FitsNode
+pub mod NodeColumns
 pub mod NodeRows
 pub mod Nodes
+pub mod Operators
 pub mod Others
 pub mod Steps
-pub mod TextWords
 pub mod Widths

@@ -6,8 +6,9 @@ use Rattle.std.specs.Prelude.{slice_get}
 use Rattle.std.proofs.Math.Nat.{mul-le-mul}
 use Rattle.std.proofs.lemmas.Bool.Decides.{nat_tests}
 use Rattle.std.proofs.lemmas.List.{length-map}
-use Rattle.std.proofs.lemmas.List.Elements.{All-filter, All-head, All-tail}
+use Rattle.std.proofs.lemmas.List.Elements.{All-head, All-map, All-tail, All-weaker}
 use Rattle.std.proofs.lemmas.List.Sums.{sum-map, sum_by-cons}
+use Rattle.words.specs.Texts.{TextsAreWords}
 use Rattle.words.specs.declared.column.Column.{Column}
 use Rattle.query_graph.specs.declared.node.Node.{Node}
 use Rattle.query_graph.specs.declared.operator.Operator.{Operator}
@@ -15,72 +16,83 @@ use Rattle.query_graph.specs.declared.operator.Operator.TheVariants as operators
 use Rattle.query_graph.specs.IsGraph as graph
 use Rattle.query_graph.specs.Sizes as sizes
 use Rattle.plain_operators.specs.declared.aggregate.Aggregate.{Aggregate}
+use Rattle.plain_operators.specs.declared.item.Item.{Item}
 use Rattle.plain_operators.specs.Items.{holds_of, item_word}
 use Rattle.plain_operators.specs.Operators.{distinct_rows, joined_rows, rows_of_items}
-use Rattle.plain_operators.specs.Sizes.{AllWide, IsOfWords}
-use Rattle.plain_operators.proofs.DistinctRows.{All-distinct_rows}
-use Rattle.plain_operators.proofs.Lists.{All-flat_map, length-filter-le}
-use Rattle.plain_operators.proofs.Sizes.{grouped_rows-IsOfWords, joined_rows-AllWide, joined_rows-IsOfWords, length-distinct_rows-le, length-grouped_rows-le, length-joined_rows-le, length-whole_table_rows-le, whole_table_rows-IsOfWords}
-use Rattle.plain_operators.proofs.Words.{rows_of_items-IsOfWords}
+use Rattle.plain_operators.specs.Sizes.{AllWide, HasWordConstants, IsOfWords, ItemsGiveWords, OperatorCounts, OperatorsKeepWidths, OperatorsKeepWords}
 use Rattle.plain_meaning.specs.Convert.{aggregate_of, item_of, test_of}
 use Rattle.plain_meaning.specs.Fits.{FitsEarlier, width_at}
 use Rattle.plain_meaning.specs.Laws.{KeepBounds}
-use Rattle.plain_meaning.specs.Meaning.{group_rows, is_relation, node_rows, rows_of}
+use Rattle.plain_operators.specs.OnSources.{group_of_rows}
+use Rattle.query_graph.specs.Observers.{is_relation}
+use Rattle.plain_meaning.specs.Meaning.{node_rows, rows_of}
 use Rattle.plain_meaning.specs.Plain.{is_over}
 use Rattle.plain_meaning.proofs.Constants.{items_constants}
 use Rattle.plain_meaning.proofs.FitsNode.{source}
-use Rattle.plain_meaning.proofs.Widths.{group_rows-AllWide, rows_of_items-AllWide}
+use Rattle.plain_meaning.proofs.Widths.{All-flat_map, group_of_rows-AllWide}
+
+-- the laws of the operators and of texts on which these stand
+pub record RowLaws : Type 0 where
+  pub widths : OperatorsKeepWidths
+  pub words : OperatorsKeepWords
+  pub items : ItemsGiveWords
+  pub counts : OperatorCounts
+  pub texts : TextsAreWords
 
 -- widths
 
-module _ (files : List (List (List ℕ))) (widths : List ℕ) (width : ℕ) (earlier : List (List (List ℕ))) (each : (s : ℕ) → s < length widths → AllWide (width_at widths s) (rows_of earlier s)) where
+module _ (laws : RowLaws) (files : List (List (List ℕ))) (widths : List ℕ) (width : ℕ) (earlier : List (List (List ℕ))) (each : (s : ℕ) → s < length widths → AllWide (width_at widths s) (rows_of earlier s)) where
   pub node_rows-AllWide : (shape : Operator) → FitsEarlier files widths width shape → AllWide width (node_rows shape (get_or files 0 []) earlier)
   node_rows-AllWide (operators.Relation r) h = h.wide
   node_rows-AllWide (operators.Filter f) h =
       let rows = rows_of earlier f.source in
-      let p = λ (row : List ℕ). list_all (λ test. test row) (map holds_of (map test_of f.tests)) in
-      All-filter p (λ row. length row ≡ width) rows (subst (λ w. AllWide w rows) h.same (each f.source h.source))
+      laws.widths.kept (map holds_of (map test_of f.tests)) width rows (subst (λ w. AllWide w rows) h.same (each f.source h.source))
   node_rows-AllWide (operators.Select s) h =
       let words = map item_word (map item_of s.items) in
       let rows = rows_of earlier s.source in
       let long : length words ≡ width = length-map (map item_of s.items) item_word ∙ length-map s.items item_of ∙ h.same in
-      subst (λ w. AllWide w (rows_of_items words rows)) long (rows_of_items-AllWide words rows)
+      subst (λ w. AllWide w (rows_of_items words rows)) long (laws.widths.items words rows)
   node_rows-AllWide (operators.Concat c) h =
       All-flat_map (λ row. length row ≡ width) (rows_of earlier) c.sources
       (λ k d below. subst (λ w. AllWide w (rows_of earlier (get_or c.sources k d))) (h.same k d below) (each (get_or c.sources k d) (h.sources k d below)))
   node_rows-AllWide (operators.Join j) h =
       let lefts = rows_of earlier j.left in
       let rights = rows_of earlier j.right in
-      subst (λ w. AllWide w (joined_rows j.keys lefts rights)) h.same (joined_rows-AllWide j.keys (width_at widths j.left) (width_at widths j.right) lefts rights (each j.left h.left) (each j.right h.right))
+      subst (λ w. AllWide w (joined_rows j.keys lefts rights)) h.same (laws.widths.joined j.keys (width_at widths j.left) (width_at widths j.right) lefts rights (each j.left h.left) (each j.right h.right))
   node_rows-AllWide (operators.Group g) h =
       let aggregates = map aggregate_of g.aggregates in
       let rows = rows_of earlier g.source in
       let long : length g.keys + length aggregates ≡ width = ap (λ n. length g.keys + n) (length-map g.aggregates aggregate_of) ∙ h.same in
-      subst (λ w. AllWide w (group_rows g.keys aggregates rows)) long (group_rows-AllWide g.keys aggregates rows)
+      subst (λ w. AllWide w (group_of_rows g.keys aggregates rows)) long (group_of_rows-AllWide laws.widths g.keys aggregates rows)
   node_rows-AllWide (operators.Distinct d) h =
       let rows = rows_of earlier d.source in
-      All-distinct_rows (λ row. length row ≡ width) rows (subst (λ w. AllWide w rows) h.same (each d.source h.source))
+      laws.widths.distinct width rows (subst (λ w. AllWide w rows) h.same (each d.source h.source))
 
 -- words
 
-group_rows-IsOfWords : (keys : List ℕ) (aggregates : List Aggregate) (rows : List (List ℕ)) → length rows < 2 ^ 64 → All IsOfWords rows → All IsOfWords (group_rows keys aggregates rows)
-group_rows-IsOfWords [] aggregates rows few words = whole_table_rows-IsOfWords aggregates rows few words
-group_rows-IsOfWords (key ∷ keys) aggregates rows few words = grouped_rows-IsOfWords (key ∷ keys) aggregates rows few words
+items_words : RowLaws → (items : List Item) (rows : List (List ℕ)) → All HasWordConstants items → All IsOfWords rows → All IsOfWords (rows_of_items (map item_word items) rows)
+items_words laws items rows constants words =
+    laws.words.items (map item_word items) rows
+    (λ row own. All-map (λ word. word row < 2 ^ 64) item_word items (All-weaker HasWordConstants (λ item. item_word item row < 2 ^ 64) (λ item constant. laws.items item row constant own) items constants)) words
 
-module _ (nodes : List Node) (i : ℕ) (short : i ≤ length nodes) (n : Node) (files : List (List (List ℕ))) (widths : List ℕ) (width : ℕ) (earlier : List (List (List ℕ))) (each : (s : ℕ) → s < length widths → (length (rows_of earlier s) < 2 ^ 64) × All IsOfWords (rows_of earlier s)) where
+group_of_rows-IsOfWords : RowLaws → (keys : List ℕ) (aggregates : List Aggregate) (rows : List (List ℕ)) → length rows < 2 ^ 64 → All IsOfWords rows → All IsOfWords (group_of_rows keys aggregates rows)
+group_of_rows-IsOfWords laws [] aggregates rows few words = laws.words.whole aggregates rows few words
+group_of_rows-IsOfWords laws (key ∷ keys) aggregates rows few words = laws.words.grouped (key ∷ keys) aggregates rows few words
+
+module _ (laws : RowLaws) (nodes : List Node) (i : ℕ) (short : i ≤ length nodes) (n : Node) (files : List (List (List ℕ))) (widths : List ℕ) (width : ℕ) (earlier : List (List (List ℕ))) (each : (s : ℕ) → s < length widths → (length (rows_of earlier s) < 2 ^ 64) × All IsOfWords (rows_of earlier s)) where
   pub node_rows-IsOfWords : (shape : Operator) → graph.FitsSources nodes i n shape → FitsEarlier files widths width shape → (is_relation shape ≡ true → All IsOfWords (get_or files 0 [])) → All IsOfWords (node_rows shape (get_or files 0 []) earlier)
   node_rows-IsOfWords (operators.Relation r) is h file = file refl
   node_rows-IsOfWords (operators.Filter f) is h file =
-      All-filter (λ row. list_all (λ test. test row) (map holds_of (map test_of f.tests))) IsOfWords (rows_of earlier f.source) (each f.source h.source).1
+      laws.words.kept (map holds_of (map test_of f.tests)) (rows_of earlier f.source) (each f.source h.source).1
   node_rows-IsOfWords (operators.Select select) is h file =
       let s = source nodes i short select.source (λ columns rows. graph.IsSelect columns rows n select) is in
-      rows_of_items-IsOfWords (map item_of select.items) (rows_of earlier select.source) (items_constants s.found.columns select.items n.columns s.fits.columns) (each select.source h.source).1
+      items_words laws (map item_of select.items) (rows_of earlier select.source) (items_constants laws.texts s.found.columns select.items n.columns s.fits.columns) (each select.source h.source).1
   node_rows-IsOfWords (operators.Concat c) is h file = All-flat_map IsOfWords (rows_of earlier) c.sources (λ k d below. (each (get_or c.sources k d) (h.sources k d below)).1)
-  node_rows-IsOfWords (operators.Join j) is h file = joined_rows-IsOfWords j.keys (rows_of earlier j.left) (rows_of earlier j.right) (each j.left h.left).1 (each j.right h.right).1
+  node_rows-IsOfWords (operators.Join j) is h file = laws.words.joined j.keys (rows_of earlier j.left) (rows_of earlier j.right) (each j.left h.left).1 (each j.right h.right).1
   node_rows-IsOfWords (operators.Group g) is h file =
       let own = each g.source h.source in
-      group_rows-IsOfWords g.keys (map aggregate_of g.aggregates) (rows_of earlier g.source) own.0 own.1
-  node_rows-IsOfWords (operators.Distinct d) is h file = All-distinct_rows IsOfWords (rows_of earlier d.source) (each d.source h.source).1
+      group_of_rows-IsOfWords laws g.keys (map aggregate_of g.aggregates) (rows_of earlier g.source) own.0 own.1
+  node_rows-IsOfWords (operators.Distinct d) is h file = laws.words.distinct (rows_of earlier d.source) (each d.source h.source).1
 
 -- numbers of rows
 
@@ -92,14 +104,14 @@ within_parts : (bound : Option ℕ) (rows : List (List ℕ)) (n : ℕ) → lengt
 within_parts None rows n few within = few
 within_parts (Some k) rows n few within = let short : length rows ≤ 3 * k = grind (arith, nat_tests) in omega arith
 
-length-group_rows : (keys : List ℕ) (aggregates : List Aggregate) (parts : Option ℕ) (rows : List (List ℕ)) (n : ℕ) → length rows ≤ n → is_over (option_map (λ k. 3 * k) parts) (group_rows keys aggregates rows) ≡ false
-    → length (group_rows keys aggregates rows) ≤ sizes.group_rows keys parts n
-length-group_rows [] aggregates parts rows n few within = length-whole_table_rows-le aggregates rows
-length-group_rows (key ∷ keys) aggregates parts rows n few within =
-    let fewer = length-grouped_rows-le (key ∷ keys) aggregates rows in
-    within_parts parts (group_rows (key ∷ keys) aggregates rows) n (omega arith) within
+length-group_of_rows : OperatorCounts → (keys : List ℕ) (aggregates : List Aggregate) (parts : Option ℕ) (rows : List (List ℕ)) (n : ℕ) → length rows ≤ n → is_over (option_map (λ k. 3 * k) parts) (group_of_rows keys aggregates rows) ≡ false
+    → length (group_of_rows keys aggregates rows) ≤ sizes.group_rows keys parts n
+length-group_of_rows counts [] aggregates parts rows n few within = counts.whole aggregates rows
+length-group_of_rows counts (key ∷ keys) aggregates parts rows n few within =
+    let fewer = counts.grouped (key ∷ keys) aggregates rows in
+    within_parts parts (group_of_rows (key ∷ keys) aggregates rows) n (omega arith) within
 
-module _ (nodes : List Node) (i : ℕ) (short : i ≤ length nodes) (file : List (List ℕ)) (earlier : List (List (List ℕ))) (each : (s : ℕ) (m : Node) → s < i → slice_get nodes s ≡ Some m → length (rows_of earlier s) ≤ m.rows) where
+module _ (laws : RowLaws) (nodes : List Node) (i : ℕ) (short : i ≤ length nodes) (file : List (List ℕ)) (earlier : List (List (List ℕ))) (each : (s : ℕ) (m : Node) → s < i → slice_get nodes s ≡ Some m → length (rows_of earlier s) ≤ m.rows) where
   all_sources : (P : List Column → ℕ → Type 0) (sources : List ℕ) → All (λ s. graph.IsSource nodes i s P) sources → length (flat_map (rows_of earlier) sources) ≤ sum_by (graph.rows_at nodes) sources
   all_sources P [] all = omega arith
   all_sources P (s ∷ sources) all =
@@ -117,7 +129,7 @@ module _ (nodes : List Node) (i : ℕ) (short : i ≤ length nodes) (file : List
       let s = source nodes i short f.source (λ columns rows. graph.IsFilter columns rows n f) h in
       let few = each f.source s.found s.earlier s.is in
       let rows = node_rows (operators.Filter f) file earlier in
-      let fewer = length-filter-le (λ row. list_all (λ test. test row) (map holds_of (map test_of f.tests))) (rows_of earlier f.source) in
+      let fewer = laws.counts.kept (map holds_of (map test_of f.tests)) (rows_of earlier f.source) in
       subst (λ m. length rows ≤ m) (sym s.fits.size) (within_bound f.at_most rows s.found.rows (omega arith) kept.bound)
   length-node_rows n (operators.Select select) h first kept =
       let s = source nodes i short select.source (λ columns rows. graph.IsSelect columns rows n select) h in
@@ -135,18 +147,18 @@ module _ (nodes : List Node) (i : ℕ) (short : i ≤ length nodes) (file : List
       let left_few = each j.left l.found l.earlier l.is in
       let right_few = each j.right r.found r.earlier r.is in
       let rows = joined_rows j.keys lefts rights in
-      let product = length-joined_rows-le j.keys lefts rights in
+      let product = laws.counts.joined j.keys lefts rights in
       let grown : length lefts * length rights ≤ l.found.rows * r.found.rows = mul-le-mul left_few right_few in
       subst (λ m. length rows ≤ m) (sym r.fits.size) (within_bound j.at_most rows (l.found.rows * r.found.rows) (omega arith) kept.bound)
   length-node_rows n (operators.Group g) h first kept =
       let s = source nodes i short g.source (λ columns rows. graph.IsGroup columns rows n g) h in
       let few = each g.source s.found s.earlier s.is in
       let aggregates = map aggregate_of g.aggregates in
-      let rows = group_rows g.keys aggregates (rows_of earlier g.source) in
+      let rows = group_of_rows g.keys aggregates (rows_of earlier g.source) in
       subst (λ m. length rows ≤ m) (sym s.fits.size)
-      (within_bound g.at_most rows (sizes.group_rows g.keys g.parts_at_most s.found.rows) (length-group_rows g.keys aggregates g.parts_at_most (rows_of earlier g.source) s.found.rows few kept.parts) kept.bound)
+      (within_bound g.at_most rows (sizes.group_rows g.keys g.parts_at_most s.found.rows) (length-group_of_rows laws.counts g.keys aggregates g.parts_at_most (rows_of earlier g.source) s.found.rows few kept.parts) kept.bound)
   length-node_rows n (operators.Distinct d) h first kept =
       let s = source nodes i short d.source (λ columns rows. graph.IsDistinctOf columns rows n d) h in
       let few = each d.source s.found s.earlier s.is in
-      let fewer = length-distinct_rows-le (rows_of earlier d.source) in
+      let fewer = laws.counts.distinct (rows_of earlier d.source) in
       subst (λ m. length (distinct_rows (rows_of earlier d.source)) ≤ m) (sym s.fits.size) (within_bound d.at_most (distinct_rows (rows_of earlier d.source)) s.found.rows (omega arith) kept.bound)

@@ -12,9 +12,10 @@ use Rattle.query_graph.specs.declared.node.Node.{Node}
 use Rattle.plain_operators.specs.Sizes.{AllWide, IsOfWords}
 use Rattle.plain_meaning.specs.Fits.{AreRowsOf, FitsEarlier, IsWorldOf, relations, widths_before}
 use Rattle.plain_meaning.specs.Laws.{FirstKeepBounds, KeepBounds, NodesAreOfWords, NodesAreWide, NodesFitEarlier, NodesKeepSizes, NodesMeanOperators, relations_before}
-use Rattle.plain_meaning.specs.Meaning.{files_after, is_relation, meanings, meanings_after, node_rows, rows_of}
+use Rattle.query_graph.specs.Observers.{is_relation}
+use Rattle.plain_meaning.specs.Meaning.{files_after, meanings, meanings_after, node_rows, rows_of}
 use Rattle.plain_meaning.proofs.FitsNode.{fits_before, length-widths_before, width_before}
-use Rattle.plain_meaning.proofs.NodeRows.{length-node_rows, node_rows-AllWide, node_rows-IsOfWords}
+use Rattle.plain_meaning.proofs.NodeRows.{RowLaws, length-node_rows, node_rows-AllWide, node_rows-IsOfWords}
 use Rattle.plain_meaning.proofs.Steps.{first_file, front, next, next_files, other_files}
 
 -- the first of the files that are left is a relation's
@@ -32,7 +33,7 @@ first_words n nodes files world is = by files (subst (λ b. AllZip AreRowsOf (co
     by [] h = absurd h
     by (rows ∷ files) h = h.0.words
 
-module _ (nodes : List Node) (world : List (List (List ℕ))) (are_nodes : (i : ℕ) (n : Node) → slice_get nodes i ≡ Some n → graph.IsNode nodes i n) where
+module _ (laws : RowLaws) (nodes : List Node) (world : List (List (List ℕ))) (are_nodes : (i : ℕ) (n : Node) → slice_get nodes i ≡ Some n → graph.IsNode nodes i n) where
   -- what is shown of a node with its number and of its rows
   pub record Shown (i : ℕ) (n : Node) (rows : List (List ℕ)) : Type 0 where
     pub meant : rows ≡ node_rows n.shape (rows_of world (relations_before nodes i)) (take i (meanings nodes world))
@@ -108,12 +109,12 @@ module _ (nodes : List Node) (world : List (List (List ℕ))) (are_nodes : (i : 
     unfolding rows
     node_shown = record {
       meant = λ k. node_rows n.shape (own_file k) (sym first_rows k);
-      wide = node_rows-AllWide (drop relation world) (widths_before nodes (length earlier)) (length n.columns) earlier
+      wide = node_rows-AllWide laws (drop relation world) (widths_before nodes (length earlier)) (length n.columns) earlier
           (λ s inside. let source = source_shown s inside in subst (λ w. AllWide w (rows_of earlier s)) (sym (width_before nodes (length earlier) short s source.0 source.1 source.2)) source.3.wide) n.shape fits;
-      few = λ bounds. length-node_rows nodes (length earlier) short (get_or (drop relation world) 0 []) earlier
+      few = λ bounds. length-node_rows laws nodes (length earlier) short (get_or (drop relation world) 0 []) earlier
           (λ s m lower found. (reached.shown s m lower found).few (fewer (s + 1) (length earlier + 1) (omega arith) bounds)) n n.shape (are_nodes (length earlier) n is).sources
           (first_few n (drop (length earlier + 1) nodes) (drop relation world) files_here) (subst (KeepBounds n.shape) own (bounds (length earlier) n (omega arith) is));
-      words = λ bounds. node_rows-IsOfWords nodes (length earlier) short n (drop relation world) (widths_before nodes (length earlier)) (length n.columns) earlier
+      words = λ bounds. node_rows-IsOfWords laws nodes (length earlier) short n (drop relation world) (widths_before nodes (length earlier)) (length n.columns) earlier
           (λ s inside.
           let source = source_shown s inside in
           let lower = source.1 in
@@ -172,19 +173,19 @@ module _ (nodes : List Node) (world : List (List (List ℕ))) (are_nodes : (i : 
   pub shown_all : IsWorldOf nodes world → (k : ℕ) (n : Node) → slice_get nodes k ≡ Some n → Shown k n (rows_of (meanings nodes world) k)
   shown_all fits = shown_after (length nodes) 0 [] (omega arith) (record { before = refl; all = refl; files = fits; shown = λ k n lower is. absurd (omega arith) })
 
-pub nodes_mean_operators : NodesMeanOperators
-nodes_mean_operators graph world i node h = (shown_all graph.nodes world h.is_graph.nodes h.is_world i node h.is_node).meant
+pub nodes_mean_operators : RowLaws → NodesMeanOperators
+nodes_mean_operators laws graph world i node h = (shown_all laws graph.nodes world h.is_graph.nodes h.is_world i node h.is_node).meant
 
 pub nodes_fit_earlier : NodesFitEarlier
 nodes_fit_earlier graph i node files is_graph at first =
     let below = slice_get_within graph.nodes i node at in
     fits_before graph.nodes i (omega arith) files node first (is_graph.nodes i node at)
 
-pub nodes_are_wide : NodesAreWide
-nodes_are_wide graph world i node h = (shown_all graph.nodes world h.is_graph.nodes h.is_world i node h.is_node).wide
+pub nodes_are_wide : RowLaws → NodesAreWide
+nodes_are_wide laws graph world i node h = (shown_all laws graph.nodes world h.is_graph.nodes h.is_world i node h.is_node).wide
 
-pub nodes_keep_sizes : NodesKeepSizes
-nodes_keep_sizes graph world i node h = (shown_all graph.nodes world h.is_graph.nodes h.is_world i node h.is_node).few
+pub nodes_keep_sizes : RowLaws → NodesKeepSizes
+nodes_keep_sizes laws graph world i node h = (shown_all laws graph.nodes world h.is_graph.nodes h.is_world i node h.is_node).few
 
-pub nodes_are_of_words : NodesAreOfWords
-nodes_are_of_words graph world i node h = (shown_all graph.nodes world h.is_graph.nodes h.is_world i node h.is_node).words
+pub nodes_are_of_words : RowLaws → NodesAreOfWords
+nodes_are_of_words laws graph world i node h = (shown_all laws graph.nodes world h.is_graph.nodes h.is_world i node h.is_node).words

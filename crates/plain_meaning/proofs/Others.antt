@@ -7,7 +7,10 @@ use Rattle.std.proofs.lemmas.List.Elements.{All-head, All-tail, filter_agree}
 use Rattle.std.proofs.lemmas.List.FromFn.{length-range_with_len}
 use Rattle.plain_operators.specs.Columns.{other_columns}
 use Rattle.plain_operators.specs.Within.{HasColumns}
-use Rattle.plain_operators.proofs.Lists.{filter_all}
+
+filter_all : {X : Type 0} (p : X → Bool) (xs : List X) → All (λ x. p x ≡ true) xs → filter p xs ≡ xs
+filter_all p [] all = refl
+filter_all p (x ∷ xs) all = rw (All-head (λ z. p z ≡ true) x xs all) (ap (λ l. x ∷ l) (filter_all p xs (All-tail (λ z. p z ≡ true) x xs all)))
 
 -- a test that k fails too
 but : ℕ → (ℕ → Bool) → ℕ → Bool

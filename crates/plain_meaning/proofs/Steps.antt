@@ -10,7 +10,8 @@ use Rattle.query_graph.specs.declared.operator.Operator.{Operator}
 use Rattle.tables.specs.Content.{Content}
 use Rattle.plain_operators.specs.Limits.{first_of}
 use Rattle.plain_meaning.specs.Fits.{AreRowsOf, FitsRelation, IsWorldOf, relations}
-use Rattle.plain_meaning.specs.Meaning.{files_after, is_relation, meanings, meanings_after, node_rows, rows_of}
+use Rattle.query_graph.specs.Observers.{is_relation}
+use Rattle.plain_meaning.specs.Meaning.{files_after, meanings, meanings_after, node_rows, rows_of}
 use Rattle.plain_meaning.specs.Plain.{Ends, IsPlain, bound_of, is_over, limit_of, listed}
 
 -- the rows of the first nodes stand first

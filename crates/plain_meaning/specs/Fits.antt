@@ -15,7 +15,7 @@ use Rattle.plain_operators.specs.Operators.{left_keys, right_keys}
 use Rattle.plain_operators.specs.Sizes.{IsOfWords, joined_width}
 use Rattle.plain_operators.specs.Within.{HasColumns, IsAggregateOf, IsItemOf, IsTestOf}
 use Rattle.plain_meaning.specs.Convert.{aggregate_of, item_of, test_of}
-use Rattle.plain_meaning.specs.Meaning.{is_relation}
+use Rattle.query_graph.specs.Observers.{is_relation}
 
 -- the relations of a graph, in the order of the text
 abbrev pub relations : List Node → List Node

@@ -10,7 +10,8 @@ use Rattle.query_graph.specs.declared.operator.Operator.TheVariants.{Relation, F
 use Rattle.plain_operators.specs.Sizes.{AllWide, IsOfWords}
 use Rattle.tables.specs.Content as table
 use Rattle.plain_meaning.specs.Fits.{AreFiles, FitsEarlier, FitsRelation, IsWorldOf, relations, widths_before}
-use Rattle.plain_meaning.specs.Meaning.{is_relation, meanings, node_rows, rows_of}
+use Rattle.query_graph.specs.Observers.{is_relation}
+use Rattle.plain_meaning.specs.Meaning.{meanings, node_rows, rows_of}
 use Rattle.plain_meaning.specs.Plain.{bound_of, is_over, rows_of_tables}
 
 -- the most rows of a group whose rows come in three parts, each under a bound

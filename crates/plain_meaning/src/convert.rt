@@ -77,19 +77,22 @@ fn aggregate_of(aggregate: &query_graph::Aggregate) -> Aggregate
     }
 }
 
-pub(crate) fn tests_of(alloc: Global, tests: &[query_graph::Test]) -> Result<Vec<Test>, AllocError>
+/// The tests of a filter as tests of rows.
+pub fn tests_of(alloc: Global, tests: &[query_graph::Test]) -> Result<Vec<Test>, AllocError>
     ensures { IfOk result (λ made. made.items ≡ map test_of tests.now) }
 {
     tests.iter().map(|test| test_of(test)).collect(alloc)
 }
 
-pub(crate) fn items_of(alloc: Global, items: &[query_graph::Item]) -> Result<Vec<Item>, AllocError>
+/// The items of a select as items of rows.
+pub fn items_of(alloc: Global, items: &[query_graph::Item]) -> Result<Vec<Item>, AllocError>
     ensures { IfOk result (λ made. made.items ≡ map item_of items.now) }
 {
     items.iter().map(|item| item_of(item)).collect(alloc)
 }
 
-pub(crate) fn aggregates_of(
+/// The aggregates of a group as aggregates of rows.
+pub fn aggregates_of(
     alloc: Global,
     aggregates: &[query_graph::Aggregate],
 ) -> Result<Vec<Aggregate>, AllocError>

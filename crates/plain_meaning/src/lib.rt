@@ -15,5 +15,6 @@ mod rows;
 mod walk;
 mod world;
 
+pub use convert::{aggregates_of, items_of, tests_of};
 pub use walk::{PlainRows, plain};
 pub use world::World;

@@ -3,14 +3,15 @@
 
 ghost use Rattle.std.specs.Prelude.{◌≡◌, ◌+◌, [], length, map, IfOk};
 ghost use Rattle.plain_operators.specs.Limits.{first_of};
+ghost use Rattle.plain_operators.specs.OnSources.{group_of_rows};
 ghost use Rattle.plain_operators.specs.Rows.{lent, owned};
 ghost use Rattle.plain_operators.specs.Within.{AreAggregatesOf, EachFits, HasColumns};
 ghost use Rattle.plain_meaning.specs.Fits.{FitsConcat, FitsDistinct, FitsFilter, FitsGroup, FitsJoin, FitsSelect, widths_of};
-ghost use Rattle.plain_meaning.specs.Meaning.{group_rows};
 ghost use Rattle.plain_meaning.specs.Plain.{limit_of, listed_table};
 
 use crate::convert::{aggregates_of, items_of, tests_of};
 use crate::rows::{add_source, source_rows, table_of_lent, table_of_made};
+use plain_operators::laws::operators_keep_widths;
 use plain_operators::{
     Aggregate, distinct_rows, grouped_rows, joined_rows, kept_rows, rows_of_items, whole_table_rows,
 };
@@ -86,6 +87,7 @@ pub(crate) fn joined(
     ensures { IfOk result (λ table. table
         ≡ listed_table columns.items (Operator.Join join.now) [] earlier.now) }
 {
+    operators_keep_widths();
     let lefts = source_rows(alloc, earlier, join.left)?;
     let rights = source_rows(alloc, earlier, join.right)?;
     let limit = limit_of(join.at_most);
@@ -103,9 +105,10 @@ pub(crate) fn grouped(
     ensures { IfOk result (λ table. table
         ≡ listed_table columns.items (Operator.Group group.now) [] earlier.now) }
 {
+    operators_keep_widths();
     let aggregates = aggregates_of(alloc, group.aggregates.as_slice())?;
     let rows = source_rows(alloc, earlier, group.source)?;
-    let made = group_rows(
+    let made = group_of_rows(
         alloc,
         group.keys.as_slice(),
         &aggregates,
@@ -116,7 +119,7 @@ pub(crate) fn grouped(
 }
 
 // The rows of a group with keys or without, no more than one above the bound.
-fn group_rows(
+fn group_of_rows(
     alloc: Global,
     keys: &[u32],
     aggregates: &[Aggregate],
@@ -126,7 +129,7 @@ fn group_rows(
     requires of_keys { EachFits (HasColumns keys.now) rows.now }
     requires of_aggregates { EachFits (AreAggregatesOf aggregates.now) rows.now }
     ensures { IfOk result (λ made. owned made.items
-        ≡ first_of (limit_of at_most) (group_rows keys.now aggregates.now (lent rows.now))) }
+        ≡ first_of (limit_of at_most) (group_of_rows keys.now aggregates.now (lent rows.now))) }
 {
     if keys.is_empty() {
         whole_table_rows(alloc, aggregates, rows)
@@ -145,6 +148,7 @@ pub(crate) fn distinct(
     ensures { IfOk result (λ table. table
         ≡ listed_table columns.items (Operator.Distinct distinct.now) [] earlier.now) }
 {
+    operators_keep_widths();
     let rows = source_rows(alloc, earlier, distinct.source)?;
     let kept = distinct_rows(alloc, &rows, limit_of(distinct.at_most))?;
     table_of_lent(alloc, columns, &kept)

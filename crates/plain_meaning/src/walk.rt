@@ -6,7 +6,7 @@ ghost use Rattle.plain_meaning.specs.Fits.{IsWorldOf};
 ghost use Rattle.plain_meaning.specs.Plain.{IsPlain, rows_of_tables};
 
 use crate::node::{is_over, node_table};
-use crate::world::{World, is_relation};
+use crate::world::World;
 use query_graph::Graph;
 use query_text::Sequence;
 use std::alloc::{AllocError, Global};
@@ -36,7 +36,7 @@ pub fn plain(alloc: Global, graph: &Graph, world: &World) -> Result<PlainRows, A
                 over: Some(number as u32),
             });
         }
-        if is_relation(&node.shape) {
+        if node.shape.is_relation() {
             relation += 1;
         }
         tables.push(table)?;

@@ -4,10 +4,9 @@
 ghost use Rattle.std.specs.Prelude.{◌≡◌, ◌<◌, ◌↔◌, IsTrue, map, length, slice_get, Some, IfOk, IfErr};
 ghost use Rattle.tables.specs.Content.{HasWords};
 ghost use Rattle.plain_meaning.specs.Fits.{AreFiles, IsFileOf, IsWorldOf};
-ghost use Rattle.plain_meaning.specs.Meaning.{is_relation};
 ghost use Rattle.plain_meaning.specs.Plain.{rows_of_tables};
 
-use query_graph::{Graph, Node, Operator};
+use query_graph::{Graph, Node};
 use std::marker::Model;
 use tables::Table;
 use words::{Column, Kind};
@@ -66,7 +65,7 @@ fn are_files(nodes: &[Node], tables: &[Table]) -> bool
 {
     let mut number = 0;
     for node in nodes {
-        if is_relation(&node.shape) {
+        if node.shape.is_relation() {
             if number >= tables.len() || !is_file_of(node, &tables[number]) {
                 return false;
             }
@@ -74,21 +73,6 @@ fn are_files(nodes: &[Node], tables: &[Table]) -> bool
         }
     }
     number == tables.len()
-}
-
-// Whether an operator is a relation.
-pub(crate) fn is_relation(operator: &Operator) -> bool
-    ensures { result ≡ is_relation operator.now }
-{
-    match operator {
-        Operator::Relation(_) => true,
-        Operator::Filter(_) => false,
-        Operator::Select(_) => false,
-        Operator::Concat(_) => false,
-        Operator::Join(_) => false,
-        Operator::Group(_) => false,
-        Operator::Distinct(_) => false,
-    }
 }
 
 fn is_file_of(node: &Node, table: &Table) -> bool

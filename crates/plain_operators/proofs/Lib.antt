@@ -6,6 +6,7 @@ pub mod DistinctRows
 pub mod Firsts
 pub mod GroupPlaces
 pub mod Groups
+pub mod JoinedColumns
 pub mod Joins
 pub mod KeyPlaces
 pub mod Limits

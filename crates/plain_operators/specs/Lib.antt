@@ -4,6 +4,7 @@ pub mod Firsts
 pub mod Folds
 pub mod Index
 pub mod Items
+pub mod JoinedColumns
 pub mod Laws
 pub mod Limits
 pub mod OnSources

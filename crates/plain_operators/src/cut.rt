@@ -1,7 +1,6 @@
 //! Rows cut to columns.
 
-ghost use Rattle.std.specs.Prelude.{◌≡◌, ◌++◌, ◌==◌, length, map, IfOk, OnOk};
-ghost use Rattle.std.specs.List.{list_any};
+ghost use Rattle.std.specs.Prelude.{◌≡◌, ◌++◌, length, map, IfOk, OnOk};
 ghost use Rattle.plain_operators.specs.Columns as plain;
 ghost use Rattle.plain_operators.specs.Rows.{lent, owned};
 ghost use Rattle.plain_operators.specs.Within.{EachFits, HasColumns};
@@ -31,8 +30,9 @@ pub(crate) fn add_others(keys: &[u32], row: &[u64], words: &mut Vec<u64>) -> Res
     Ok(())
 }
 
-fn is_key(keys: &[u32], column: usize) -> bool
-    ensures { result ≡ list_any (λ key. key == column) keys.now }
+/// Whether a column is among these.
+pub fn is_key(keys: &[u32], column: usize) -> bool
+    ensures { result ≡ plain.is_key keys.now column }
 {
     keys.iter().any(|key| *key as usize == column)
 }

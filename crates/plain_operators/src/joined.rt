@@ -35,13 +35,15 @@ pub fn joined_rows(
     rows_found(alloc, &left_keys, &right_keys, lefts, rights, &index, limit)
 }
 
-fn left_keys(alloc: Global, keys: &[(u32, u32)]) -> Result<Vec<u32>, AllocError>
+/// The columns of a join's keys on the left.
+pub fn left_keys(alloc: Global, keys: &[(u32, u32)]) -> Result<Vec<u32>, AllocError>
     ensures { IfOk result (λ columns. columns.items ≡ plain.left_keys keys.now) }
 {
     keys.iter().map(|key| key.0).collect(alloc)
 }
 
-fn right_keys(alloc: Global, keys: &[(u32, u32)]) -> Result<Vec<u32>, AllocError>
+/// The columns of a join's keys on the right.
+pub fn right_keys(alloc: Global, keys: &[(u32, u32)]) -> Result<Vec<u32>, AllocError>
     ensures { IfOk result (λ columns. columns.items ≡ plain.right_keys keys.now) }
 {
     keys.iter().map(|key| key.1).collect(alloc)

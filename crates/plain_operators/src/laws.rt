@@ -2,6 +2,7 @@
 ghost use Rattle.plain_operators.specs.Cuts.{AggregatesOfCuts, OperatorsOfCuts};
 ghost use Rattle.plain_operators.specs.Firsts.{DistinctOfFirsts, GroupOfFirsts};
 ghost use Rattle.plain_operators.specs.Folds.{AggregatesAreFolds};
+ghost use Rattle.plain_operators.specs.JoinedColumns.{JoinedColumns};
 ghost use Rattle.plain_operators.specs.Laws.{OperatorsKeepBags, OperatorsOfAppend, GroupOfBlocks, WholeTableIsGroup, DistinctIsGroup};
 ghost use Rattle.plain_operators.specs.OnSources.{OperatorKeepsBags, OperatorKeepsSize, OperatorKeepsWidth};
 ghost use Rattle.plain_operators.specs.Places.{FilterOfPlaces, JoinOfPlaces};
@@ -91,11 +92,29 @@ pub fn operators_of_firsts()
 /// What is wanted of each operator's rows has the same bag where the columns that it depends on have.
 pub fn operators_of_cuts()
     ensures { OperatorsOfCuts }
-{}
+{
+    bags::laws::bags_keep_rows();
+    bags::laws::bags_of_append();
+    bags::laws::bags_of_map();
+    bags::laws::bags_of_tested_images();
+    bags::laws::fold_of_words();
+}
 
 /// Aggregates of columns that depend on some columns are the same where the bags of these are.
 pub fn aggregates_of_cuts()
     ensures { AggregatesOfCuts }
+{
+    bags::laws::bags_keep_rows();
+    bags::laws::bags_of_append();
+    bags::laws::bags_of_map();
+    bags::laws::bags_of_tested_images();
+    bags::laws::fold_of_words();
+}
+
+/// Which words a joined row has, by the numbers of its columns.
+#[tactic(auto, using(crate::proofs::JoinedColumns::joined_columns))]
+pub fn joined_columns()
+    ensures { JoinedColumns }
 {}
 
 /// An aggregate of each kind is a fold of its column, from the neutral word or from the first one.

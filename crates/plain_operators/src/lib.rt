@@ -20,9 +20,10 @@ pub mod laws;
 mod limit;
 
 pub use aggregate::Aggregate;
+pub use cut::is_key;
 pub use distinct::distinct_rows;
 pub use grouped::{grouped_rows, whole_table_rows};
 pub use item::{Comparison, Item, Operand, Operation, Test};
-pub use joined::joined_rows;
+pub use joined::{joined_rows, left_keys, right_keys};
 pub use kept::{kept_rows, rows_of_items};
 pub use key_places::grouped_places;

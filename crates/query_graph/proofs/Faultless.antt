@@ -1,5 +1,5 @@
 -- What is true of the parts of a statement without a fault.
-use Rattle.std.proofs.Common.{◌≡◌, ℕ, Bool, true, false, cond, not, ◌&&◌, List, [], ◌∷◌, Option, Some, None, Result, Ok, Err, map, refl, sym, ◌∙◌, subst, arith}
+use Rattle.std.proofs.Common.{◌≡◌, ℕ, Bool, true, false, cond, not, ◌&&◌, List, [], ◌∷◌, Option, Some, None, Result, Ok, Err, map, refl, sym, ap, ◌∙◌, subst, arith}
 use Rattle.std.specs.Prelude.{◌≢◌}
 use Rattle.std.specs.List.{AllByRecursion, AllZip, list_all}
 use Rattle.std.specs.Result.{result_unwrap_or}
@@ -20,14 +20,14 @@ use Rattle.query_text.specs.declared.parts.ItemText.TheVariants as items
 use Rattle.query_text.specs.declared.parts.AggregateText.{AggregateText}
 use Rattle.query_text.specs.declared.parts.AggregateText.TheVariants as aggregates
 use Rattle.query_graph.specs.declared.fault.GraphFault.{GraphFault}
-use Rattle.query_graph.specs.Columns.{aggregate_column, item_column}
+use Rattle.query_graph.specs.Columns.{aggregate_column, column, item_column}
 use Rattle.query_graph.specs.Faults.{first_fault, first_of, unless}
 use Rattle.query_graph.specs.IsGraph.{AreOperandsOf, AreTaken, Gathers, IsColumnOf, IsKey, IsOperandOf, IsTest, Makes}
 use Rattle.query_graph.specs.Kinds.{aggregate_fits, item_fits, operand_kind, same_kind, takes, test_fits}
 use Rattle.query_graph.specs.Names.{column_kind, column_number, is_column}
 use Rattle.query_graph.specs.Operators.{aggregate_of, item_of, operand_of, test_of}
 use Rattle.query_graph.specs.Used.{unknown_column, unknown_in_aggregate, unknown_in_item, unknown_in_test, unknown_operand}
-use Rattle.query_graph.proofs.Places.{column_within, kind_at_number}
+use Rattle.query_graph.proofs.Places.{column_at_number, column_within, kind_at_number}
 use Rattle.query_graph.proofs.RealTokens.{AreReal}
 
 pub both_none : (a b : Option GraphFault) → first_of a b ≡ None → (a ≡ None) × (b ≡ None)
@@ -189,5 +189,5 @@ key_is line left right name passes fit =
     record {
       on_left = column_within left name known.0;
       on_right = column_within right name known.1;
-      same = sym (kind_at_number left name) ∙ (kind_same _ _ fit ∙ kind_at_number right name);
+      same = column_at_number left name known.0 ∙ (ap (λ kind. Some (column name kind)) (kind_same _ _ fit) ∙ sym (column_at_number right name known.1));
     }

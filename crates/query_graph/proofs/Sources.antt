@@ -3,7 +3,7 @@ use Rattle.std.proofs.Common.{◌≡◌, ℕ, ◌+◌, ◌*◌, ◌<◌, ◌≤�
 use Rattle.std.specs.Prelude.{◌≢◌, AllPairs, is_none, slice_get, sum}
 use Rattle.std.specs.List.{AllByRecursion, AllZip, list_all}
 use Rattle.std.specs.Str.{bytes_eq}
-use Rattle.std.proofs.Math.Seq.{drop-append_seam}
+use Rattle.std.proofs.Math.Seq.{drop-append_seam, take-append_seam}
 use Rattle.std.proofs.lemmas.List.{length-map}
 use Rattle.std.proofs.lemmas.List.Elements.{All-from_recursion}
 use Rattle.std.proofs.lemmas.Slice.Eq.{bytes_eq-Decides}
@@ -31,7 +31,7 @@ use Rattle.query_graph.specs.Build.{key_numbers, node_of, operator_of}
 use Rattle.query_graph.specs.Columns.{aggregate_column, columns_of, declared_column, first_columns, item_column, key_column, other_columns, repeated_column, taken_in_node, taken_name, taken_node}
 use Rattle.query_graph.specs.Content.{Content}
 use Rattle.query_graph.specs.Faults.{first_fault}
-use Rattle.query_graph.specs.IsGraph.{FitsSources, Gathers, IsJoin, IsKey, IsSource, IsTest, Makes, rows_at}
+use Rattle.query_graph.specs.IsGraph.{FitsSources, Gathers, IsJoin, IsKey, IsSource, IsTest, Makes, first_names, rows_at}
 use Rattle.query_graph.specs.Kinds.{aggregate_fits, declared_kind, item_fits, kinds_fit, same_kind, test_fits}
 use Rattle.query_graph.specs.Names.{column_kind, column_number, is_column, is_node, node_columns, node_number, node_rows}
 use Rattle.query_graph.specs.Operators.{aggregate_of, item_of, test_of}
@@ -193,6 +193,10 @@ joined_width left right keys first second =
     let numbers = length-map keys (key_numbers left right) in
     omega (arith, all, others, made, numbers, first, second)
 
+key_names : (source : List Column) (keys : List (List ℕ)) → map (λ (c : Column). c.name) (map (key_column source) keys) ≡ keys
+key_names source [] = refl
+key_names source (k ∷ keys) = cons_same refl (key_names source keys)
+
 join_fits : (nodes : List Node) (line : ℕ) (j : JoinText) (left right : List Column) → FitsForm (bodies.Join j) → AllPairs (λ (a b : Column). a.name ≢ b.name) left
     → AllPairs (λ (a b : Column). a.name ≢ b.name) right → first_fault (unknown_column line left right) j.keys ≡ None
     → AllPairs (λ (a b : Column). a.name ≢ b.name) (map (key_column left) j.keys ++ other_columns j.keys left ++ other_columns j.keys right)
@@ -214,6 +218,9 @@ join_fits nodes line j left right form left_differ right_differ known new kinds 
     let rest = other_columns j.keys left ++ other_columns j.keys right in
     let apart = append_assoc (map (key_column left) j.keys) (other_columns j.keys left) (other_columns j.keys right) in
     let differ = keys_differ left rest j.keys (subst (AllPairs (λ (a b : Column). a.name ≢ b.name)) apart new) in
+    let count = length-map j.keys (key_numbers left right) ∙ sym (length-map j.keys (key_column left)) in
+    let front = ap (λ n. take n (map (key_column left) j.keys ++ rest)) count ∙ take-append_seam (map (key_column left) j.keys) rest in
+    let names = ap (first_names (length (map (key_numbers left right) j.keys))) apart ∙ (ap (map (λ (c : Column). c.name)) front ∙ key_names left j.keys) in
     record {
       filled = filled_map (key_numbers left right) j.keys form.0;
       keys = All-from_recursion (IsKey left right) (map (key_numbers left right) j.keys)
@@ -224,6 +231,9 @@ join_fits nodes line j left right form left_differ right_differ known new kinds 
       key_columns = ap (λ columns. map Some (take (length (map (key_numbers left right) j.keys)) columns)) apart
           ∙ (ap (λ n. map Some (take n (map (key_column left) j.keys ++ rest))) (length-map j.keys (key_numbers left right))
           ∙ (key_columns left rest j.keys known_left ∙ got left right j.keys));
+      others = ap (drop (length (map (key_numbers left right) j.keys))) apart
+          ∙ (ap (λ n. drop n (map (key_column left) j.keys ++ rest)) count
+          ∙ (drop-append_seam (map (key_column left) j.keys) rest ∙ ap (λ keys. other_columns keys left ++ other_columns keys right) (sym names)));
       width = joined_width left right j.keys (count_others left j.keys left_differ differ known_left) (count_others right j.keys right_differ differ known_right);
       size = refl;
       bound = bound;

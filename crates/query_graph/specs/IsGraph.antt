@@ -1,5 +1,5 @@
 -- What is true of every graph: its nodes and outputs, with numbers for names.
-use Rattle.std.specs.Prelude.{◌≡◌, ◌≢◌, ℕ, ◌+◌, ◌*◌, ◌<◌, ◌≤◌, ◌^◌, true, ◌||◌, List, [], Some, None, Ok, is_none, length, map, take, drop, sum, slice_get, All, AllPairs, IsSomeAnd}
+use Rattle.std.specs.Prelude.{◌≡◌, ◌≢◌, ℕ, ◌+◌, ◌*◌, ◌<◌, ◌≤◌, ◌^◌, true, ◌||◌, List, [], ◌++◌, Some, None, Ok, is_none, length, map, take, drop, sum, slice_get, All, AllPairs, IsSomeAnd}
 use Rattle.std.specs.List.{AllZip}
 use Rattle.std.specs.Option.{option_map_or}
 use Rattle.words.specs.Texts.{text_of}
@@ -29,6 +29,7 @@ use Rattle.query_graph.specs.declared.operator.Group.{Group}
 use Rattle.query_graph.specs.declared.operator.Distinct.{Distinct}
 use Rattle.query_graph.specs.declared.operator.Operator.{Operator}
 use Rattle.query_graph.specs.declared.operator.Operator.TheVariants as operators
+use Rattle.query_graph.specs.Columns.{other_columns}
 use Rattle.query_graph.specs.Content.{Content}
 use Rattle.query_graph.specs.Kinds.{result_kind}
 use Rattle.query_graph.specs.Parties.{no_party}
@@ -86,11 +87,11 @@ Gathers source aggregates.Count column = column.kind ≡ Num
 Gathers source (aggregates.Least c) column = (column.kind ≢ Flag) × IsColumnOf source column.kind c
 Gathers source (aggregates.Greatest c) column = (column.kind ≢ Flag) × IsColumnOf source column.kind c
 
--- a key of a join: a column on both sides, of one kind
+-- a key of a join: a column on both sides, of one name and kind
 pub record IsKey (left right : List Column) (key : ℕ × ℕ) : Type 0 where
   pub on_left : key.0 < length left
   pub on_right : key.1 < length right
-  pub same : kind_at left key.0 ≡ kind_at right key.1
+  pub same : slice_get left key.0 ≡ slice_get right key.1
 
 pub record IsRelation (n : Node) (r : Relation) : Type 0 where
   pub owner : IsParty r.owner
@@ -134,14 +135,19 @@ pub record IsGroup (source : List Column) (rows : ℕ) (n : Node) (g : Group) : 
   pub clear : IsMaybeParty g.clear_at
   pub one_place : IsNotBoth g.via g.clear_at
 
+-- the names of the first columns, so many
+abbrev pub first_names : ℕ → List Column → List (List ℕ)
+first_names count columns = map (λ column. column.name) (take count columns)
+
 -- over a left and a right source: the keys are different columns of both and stand first; then come the
--- columns that aren't keys
+-- columns that aren't keys, first the left's and then the right's
 pub record IsJoin (left right : List Column) (left_rows right_rows : ℕ) (n : Node) (j : Join) : Type 0 where
   pub filled : IsFilled j.keys
   pub keys : All (IsKey left right) j.keys
   pub different_left : AllPairs (λ a b. a ≢ b) (map (λ key. key.0) j.keys)
   pub different_right : AllPairs (λ a b. a ≢ b) (map (λ key. key.1) j.keys)
   pub key_columns : map Some (take (length j.keys) n.columns) ≡ map (λ key. slice_get left key.0) j.keys
+  pub others : drop (length j.keys) n.columns ≡ other_columns (first_names (length j.keys) n.columns) left ++ other_columns (first_names (length j.keys) n.columns) right
   pub width : length n.columns + length j.keys ≡ length left + length right
   pub size : n.rows ≡ bounded j.at_most (left_rows * right_rows)
   pub bound : is_bound j.at_most ≡ true

@@ -1,7 +1,12 @@
 -- What is written on a node: its sources, bounds and parties.
-use Rattle.std.specs.Prelude.{ℕ, List, [], ◌∷◌, Option, None}
+use Rattle.std.specs.Prelude.{ℕ, Bool, true, false, List, [], ◌∷◌, Option, None}
 use Rattle.query_graph.specs.declared.operator.Operator.{Operator}
 use Rattle.query_graph.specs.declared.operator.Operator.TheVariants.{Relation, Filter, Select, Concat, Join, Group, Distinct}
+
+-- whether it is the rows of a file
+abbrev pub is_relation : Operator → Bool
+is_relation (Relation r) = true
+is_relation _ = false
 
 -- the numbers of its source nodes, in the order in which they are written
 abbrev pub sources_of : Operator → List ℕ

@@ -3,11 +3,18 @@
 
 ghost use Rattle.std.specs.Prelude.{◌≡◌, [], ◌∷◌, length, slice_get};
 ghost use Rattle.query_graph.specs.NodeSizes.{BoundsMakeSmaller, NodesAreWritten, NodesHaveSizes};
-ghost use Rattle.query_graph.specs.Observers.{at_most_of, clear_at_of, parts_at_most_of, sources_of, via_of};
+ghost use Rattle.query_graph.specs.Observers.{at_most_of, clear_at_of, is_relation, parts_at_most_of, sources_of, via_of};
 
 use crate::operator::Operator;
 
 impl Operator {
+    /// Whether it is a relation, whose rows are those of a file.
+    pub fn is_relation(&self) -> bool
+        ensures { result ≡ is_relation self.now }
+    {
+        matches!(self, Operator::Relation(_))
+    }
+
     /// How many sources it has.
     pub fn source_count(&self) -> usize
         ensures { result ≡ length (sources_of self.now) }

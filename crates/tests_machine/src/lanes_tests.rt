@@ -1,5 +1,5 @@
 use lanes::{
-    Listed, Party, Three, Words, pick_words, shared_and, shared_ands, xor_into, xor_words,
+    Listed, Party, Three, Words, ceil_log2, pick_words, shared_and, shared_ands, xor_into, xor_words,
 };
 use std::test::Fail;
 
@@ -76,4 +76,13 @@ fn parties_go_round(rt: HostRuntime) {
     assert_eq!(rt; *ages.at(Party::First), 30);
     assert_eq!(rt; *ages.at(Party::Second), 41);
     assert_eq!(rt; *ages.at(Party::Third), 50);
+}
+
+#[test]
+fn logarithms_are_rounded_up(rt: HostRuntime) {
+    assert_eq!(rt; ceil_log2(0), 0);
+    assert_eq!(rt; ceil_log2(1), 0);
+    assert_eq!(rt; ceil_log2(4), 2);
+    assert_eq!(rt; ceil_log2(5), 3);
+    assert_eq!(rt; ceil_log2(u64::MAX), 64);
 }

@@ -259,3 +259,13 @@ fn sets_have_the_parties_put_in(rt: HostRuntime) {
     }
     assert_eq!(rt; one_three, Parties::none().with(3).with(1));
 }
+
+#[test]
+fn a_set_lists_its_members(rt: HostRuntime) -> Result<(), Fail> {
+    let set = Parties::none().with(3).with(1);
+    let members = set.members(rt.alloc())?;
+    assert_eq!(rt; members.as_slice(), [1, 3].as_slice());
+    assert_eq!(rt; set.least(), Some(1));
+    assert!(rt; Parties::none().is_empty());
+    Ok(())
+}

@@ -3,14 +3,12 @@ use Rattle.std.proofs.Common.{◌≡◌, ℕ, zero, suc, ◌<◌, zero-add, Bool
 use Rattle.std.specs.List.{All, filter, range_with_len}
 use Rattle.std.proofs.lemmas.Bool.{cases_lt}
 use Rattle.std.proofs.lemmas.List.{get_or_past}
-use Rattle.std.proofs.lemmas.List.Elements.{All-cons, All-get_or, All-nil, All-weaker, filter_passes}
+use Rattle.std.proofs.lemmas.List.Elements.{All-cons, All-get_or, All-head, All-nil, All-tail, All-weaker, filter_passes}
 use Rattle.std.proofs.lemmas.List.FromFn.{get_or-range_with_len, length-range_with_len}
 use Rattle.query_graph.specs.declared.parties.Parties.{Parties}
 use Rattle.query_graph.specs.Parties.{has, no_party}
 use Rattle.plain_operators.specs.Columns.{cut, others, other_columns, word_at}
-use Rattle.plain_operators.specs.Cuts.{CutsAgree, DependsOn}
-use Rattle.plain_operators.proofs.Cuts.{operators_of_cuts}
-use Rattle.plain_operators.proofs.Lists.{map_agree}
+use Rattle.plain_operators.specs.Cuts.{CutsAgree, DependsOn, OperatorsOfCuts}
 use Rattle.trust_sets.specs.declared.known.Known.{Known}
 use Rattle.trust_sets.specs.Agreement.{known_columns}
 use Rattle.trust_sets.specs.Known.{column_set, met_with, other_sets}
@@ -18,6 +16,11 @@ use Rattle.trust_sets.specs.Laws.{KnowsColumn}
 use Rattle.trust_sets.specs.Steps.{SameFor}
 use Rattle.trust_sets.proofs.Needs.{in_both}
 use Rattle.trust_sets.proofs.Within.{in_none}
+
+-- functions that agree on each element of a list
+map_agree : {X Y : Type 0} (f g : X → Y) (xs : List X) → All (λ x. f x ≡ g x) xs → map f xs ≡ map g xs
+map_agree f g [] all = refl
+map_agree f g (x ∷ xs) all = λ i. All-head (λ z. f z ≡ g z) x xs all i ∷ map_agree f g xs (All-tail (λ z. f z ≡ g z) x xs all) i
 
 -- two words for each of these sets: the same where the party is in the set
 abbrev pub AreAlike : ℕ → List Parties → List ℕ → List ℕ → Type 0
@@ -102,9 +105,9 @@ module _ (party : ℕ) (source : Known) where
       map_agree (λ c. word_at c a) (λ c. word_at c b) columns (All-weaker (KnowsColumn party source) (λ c. word_at c a ≡ word_at c b) (λ c known. known_word a b same c known) columns all)
 
   -- some of the columns that the party may know
-  pub fewer_columns : (columns : List ℕ) → All (KnowsColumn party source) columns → (xs ys : List (List ℕ)) → SameFor party source xs ys → CutsAgree columns xs ys
-  fewer_columns columns all xs ys same =
-      operators_of_cuts.fewer (length source.columns) (known_columns party source) columns xs ys (columns_depend columns all) same
+  pub fewer_columns : OperatorsOfCuts → (columns : List ℕ) → All (KnowsColumn party source) columns → (xs ys : List (List ℕ)) → SameFor party source xs ys → CutsAgree columns xs ys
+  fewer_columns cuts columns all xs ys same =
+      cuts.fewer (length source.columns) (known_columns party source) columns xs ys (columns_depend columns all) same
 
   -- the columns that aren't keys, with their sets met with one of the rows
   pub others_alike : (keys : List ℕ) (rows : Parties) (a b : List ℕ) → length a ≡ length source.columns → length b ≡ length source.columns → cut (known_columns party source) a ≡ cut (known_columns party source) b

@@ -14,7 +14,8 @@ use Rattle.query_graph.specs.declared.operator.Operator.TheVariants as operators
 use Rattle.query_graph.specs.IsGraph.{FitsSources}
 use Rattle.query_graph.specs.Observers.{clear_at_of, via_of}
 use Rattle.plain_operators.specs.Operators.{left_keys, right_keys}
-use Rattle.trust_sets.specs.Faults.{columns_at, is_key, is_key_of_side, is_needed, place_of}
+use Rattle.plain_operators.specs.Columns.{is_key}
+use Rattle.trust_sets.specs.Faults.{columns_at, is_key_of_side, is_needed, place_of}
 use Rattle.trust_sets.specs.Rules.{Asks, keys_at}
 
 -- ---- keys

@@ -2,20 +2,21 @@
 use Rattle.std.proofs.Common.{◌≡◌, ℕ, zero, suc, ◌<◌, true, List, [], ◌∷◌, map, length, get_or, refl, sym, ◌∙◌, ap, subst, arith}
 use Rattle.std.specs.List.{All, flat_map, fold, range_with_len, zip}
 use Rattle.std.proofs.lemmas.List.{map-append}
-use Rattle.std.proofs.lemmas.List.Elements.{All-cons, All-head, All-nil, All-tail, All-weaker, filter_passes}
-use Rattle.bags.proofs.Bags.{SameBag-append, SameBag-refl, SameBag-same, SameBag-trans}
+use Rattle.std.proofs.lemmas.List.Elements.{All-append, All-cons, All-head, All-nil, All-tail, All-weaker, filter_passes}
+use Rattle.bags.specs.Bag.{SameBag, count_of}
+use Rattle.bags.specs.Laws.{BagsOfAppend}
 use Rattle.query_graph.specs.declared.parties.Parties.{Parties}
 use Rattle.query_graph.specs.Parties.{common_parties, has, no_party}
 use Rattle.plain_operators.specs.Columns.{cut}
 use Rattle.plain_operators.specs.Cuts.{CutsAgree}
 use Rattle.plain_operators.specs.Sizes.{AllWide}
-use Rattle.plain_operators.proofs.Lists.{All-flat_map}
 use Rattle.trust_sets.specs.declared.known.Known.{Known}
 use Rattle.trust_sets.specs.Agreement.{known_columns}
 use Rattle.trust_sets.specs.Known.{column_set, known_concat, known_of_both}
 use Rattle.trust_sets.specs.Laws.{KnowsColumn, KnowsRows}
 use Rattle.trust_sets.specs.Steps.{SameFor, SameIfKnown}
 use Rattle.trust_sets.proofs.Alike.{fewer_columns}
+use Rattle.trust_sets.proofs.StepLaws.{StepLaws}
 use Rattle.trust_sets.proofs.Needs.{in_both}
 use Rattle.trust_sets.proofs.Within.{in_none}
 
@@ -75,22 +76,30 @@ module _ (width : ℕ) (known : ℕ → Known) where
   concat_wide [] some all = absurd (omega arith)
   concat_wide (s ∷ sources) some all = fold_wide (known s) sources (All-head (λ s. length (known s).columns ≡ width) s sources all) (All-tail (λ s. length (known s).columns ≡ width) s sources all)
 
+-- what holds of each piece holds of the pieces one behind the other
+All-flat_map : {X Y : Type 0} (P : Y → Type 0) (f : X → List Y) (xs : List X) → All (λ x. All P (f x)) xs → All P (flat_map f xs)
+All-flat_map P f [] all = All-nil P
+All-flat_map P f (x ∷ xs) all = All-append P (f x) (flat_map f xs) (All-head (λ z. All P (f z)) x xs all) (All-flat_map P f xs (All-tail (λ z. All P (f z)) x xs all))
+
+along : {xs ys us vs : List (List ℕ)} → xs ≡ us → ys ≡ vs → SameBag us vs → SameBag xs ys
+along first second same = record { counts = λ row. ap (count_of row) first ∙ same.counts row ∙ sym (ap (count_of row) second) }
+
 -- sources with the same bag of some columns
-appended_cuts : (columns sources : List ℕ) (xs ys : ℕ → List (List ℕ)) → All (λ s. CutsAgree columns (xs s) (ys s)) sources → CutsAgree columns (flat_map xs sources) (flat_map ys sources)
-appended_cuts columns [] xs ys all = SameBag-refl []
-appended_cuts columns (s ∷ sources) xs ys all =
+appended_cuts : BagsOfAppend → (columns sources : List ℕ) (xs ys : ℕ → List (List ℕ)) → All (λ s. CutsAgree columns (xs s) (ys s)) sources → CutsAgree columns (flat_map xs sources) (flat_map ys sources)
+appended_cuts append columns [] xs ys all = record { counts = λ row. refl }
+appended_cuts append columns (s ∷ sources) xs ys all =
     let f = cut columns in
     let here = All-head (λ s. CutsAgree columns (xs s) (ys s)) s sources all in
-    let rest = appended_cuts columns sources xs ys (All-tail (λ s. CutsAgree columns (xs s) (ys s)) s sources all) in
-    SameBag-trans (SameBag-same (map-append f (xs s) (flat_map xs sources))) (SameBag-trans (SameBag-append here rest) (SameBag-same (sym (map-append f (ys s) (flat_map ys sources)))))
+    let rest = appended_cuts append columns sources xs ys (All-tail (λ s. CutsAgree columns (xs s) (ys s)) s sources all) in
+    along (map-append f (xs s) (flat_map xs sources)) (map-append f (ys s) (flat_map ys sources)) (append.both (map f (xs s)) (map f (ys s)) (map f (flat_map xs sources)) (map f (flat_map ys sources)) here rest)
 
 some_source : (party : ℕ) (sources : List ℕ) (known : ℕ → Known) → KnowsRows party (known_concat (map known sources)) → 0 < length sources
 some_source party [] known knows = absurd (in_none party knows)
 some_source party (s ∷ sources) known knows = omega arith
 
-pub concat_step : (party width : ℕ) (sources : List ℕ) (known : ℕ → Known) (xs ys : ℕ → List (List ℕ)) → All (λ s. length (known s).columns ≡ width) sources
+pub concat_step : StepLaws → (party width : ℕ) (sources : List ℕ) (known : ℕ → Known) (xs ys : ℕ → List (List ℕ)) → All (λ s. length (known s).columns ≡ width) sources
     → All (λ s. SameIfKnown party (known s) (xs s) (ys s)) sources → SameIfKnown party (known_concat (map known sources)) (flat_map xs sources) (flat_map ys sources)
-concat_step party width sources known xs ys wide same knows =
+concat_step laws party width sources known xs ys wide same knows =
     let new = known_concat (map known sources) in
     let columns = known_columns party new in
     let P : List ℕ → Type 0 = λ row. length row ≡ length new.columns in
@@ -101,10 +110,10 @@ concat_step party width sources known xs ys wide same knows =
     let of_source : (k d : ℕ) → k < length sources → All (KnowsColumn party (known (get_or sources k d))) columns = λ k d below.
     All-weaker (KnowsColumn party new) (KnowsColumn party (known (get_or sources k d))) (λ c known_here. concat_column party known c sources known_here k d below) columns passes in
     let cuts : All (λ s. CutsAgree columns (xs s) (ys s)) sources = λ k d below.
-    let s = get_or sources k d in fewer_columns party (known s) columns (of_source k d below) (xs s) (ys s) (here k d below) in
+    let s = get_or sources k d in fewer_columns party (known s) laws.cuts columns (of_source k d below) (xs s) (ys s) (here k d below) in
     let own : All (λ s. length (known s).columns ≡ length new.columns) sources = λ k d below. wide k d below ∙ sym whole in
     record {
       wide = All-flat_map P xs sources (λ k d below. subst (λ n. AllWide n (xs (get_or sources k d))) (own k d below) (here k d below).wide);
       wide_too = All-flat_map P ys sources (λ k d below. subst (λ n. AllWide n (ys (get_or sources k d))) (own k d below) (here k d below).wide_too);
-      bag = appended_cuts columns sources xs ys cuts;
+      bag = appended_cuts laws.append columns sources xs ys cuts;
     }

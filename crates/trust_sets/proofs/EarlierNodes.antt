@@ -1,9 +1,9 @@
 -- The sets of a graph's nodes come from those of the earlier nodes.
-use Rattle.std.proofs.Common.{◌≡◌, ℕ, zero, suc, ◌+◌, ◌<◌, List, [], ◌∷◌, ◌++◌, Some, map, length, take, get_or, refl, sym, ◌∙◌, ap, subst, arith, add-zero, zero-add}
+use Rattle.std.proofs.Common.{◌≡◌, ℕ, zero, suc, ◌+◌, ◌<◌, ◌≤◌, List, [], ◌∷◌, ◌++◌, Some, map, length, take, get_or, refl, sym, ◌∙◌, ap, subst, arith, add-zero, zero-add}
 use Rattle.std.specs.Prelude.{slice_get}
-use Rattle.std.proofs.lemmas.List.{append_assoc, append-nil, get_or_append_left, get_or_push, get_or-take, length-append, length-map, length_push, take_at}
+use Rattle.std.proofs.lemmas.List.{append_assoc, append-nil, get_or-map, get_or_append_left, get_or_push, get_or-take, length-append, length-map, length-take-le, length_push, take_at}
 use Rattle.std.proofs.lemmas.List.Elements.{All-nil}
-use Rattle.std.proofs.lemmas.Option.{same_Some, slice_get-get_or, slice_get_within}
+use Rattle.std.proofs.lemmas.Option.{get_or_from_slice_get, same_Some, slice_get-get_or, slice_get_within}
 use Rattle.query_graph.specs.Content.{Content}
 use Rattle.query_graph.specs.IsGraph.{FitsSources, IsGraph}
 use Rattle.query_graph.specs.declared.node.Node.{Node}
@@ -15,8 +15,7 @@ use Rattle.query_graph.specs.Parties.{common_parties, with_party}
 use Rattle.plain_operators.specs.Columns.{other_columns}
 use Rattle.plain_operators.specs.Operators.{left_keys, right_keys}
 use Rattle.plain_meaning.specs.Fits.{FitsEarlier, width_at, widths_before}
-use Rattle.plain_meaning.proofs.FitsNode.{length-widths_before, width_before}
-use Rattle.plain_meaning.proofs.Nodes.{nodes_fit_earlier}
+use Rattle.plain_meaning.specs.Laws.{NodesFitEarlier}
 use Rattle.trust_sets.specs.declared.known.Known.{Known}
 use Rattle.trust_sets.specs.Known.{aggregate_set, distinct_set, grouped_set, item_set, joined_set, known_at, known_behind, known_filter, known_join, known_group, known_node, known_nodes, met_with, nobody, other_sets}
 use Rattle.trust_sets.specs.Laws.{KeysAreKnown, KnowsColumn, KnowsParts, KnowsRows, KnowsSides, NodesKnowFromEarlier}
@@ -89,10 +88,19 @@ module _ (known : List Known) (widths : List ℕ) (earlier : (s : ℕ) → s < l
       let source = known_at known d.source in
       length-map source.columns (λ set. distinct_set source) ∙ earlier d.source fits.source ∙ fits.same
 
-module _ (graph : Content) (is_graph : IsGraph graph) where
+-- the widths of the first nodes
+length-widths_before : (nodes : List Node) (i : ℕ) → i ≤ length nodes → length (widths_before nodes i) ≡ i
+length-widths_before nodes i short = length-map (take i nodes) (λ n. length n.columns) ∙ length-take-le i nodes short
+
+width_before : (nodes : List Node) (i : ℕ) → i ≤ length nodes → (s : ℕ) (n : Node) → s < i → slice_get nodes s ≡ Some n → width_at (widths_before nodes i) s ≡ length n.columns
+width_before nodes i short s n earlier e =
+    let inside : s < length (take i nodes) = omega (arith, length-take-le i nodes short, earlier) in
+    get_or-map (λ n. length n.columns) (take i nodes) s n 0 inside ∙ ap (λ n. length n.columns) (get_or-take i nodes s n earlier ∙ get_or_from_slice_get nodes s n n e)
+
+module _ (fit : NodesFitEarlier) (graph : Content) (is_graph : IsGraph graph) where
   -- what an operator asks of the widths of the earlier nodes
   pub widths_fit : (i : ℕ) (n : Node) → slice_get graph.nodes i ≡ Some n → FitsEarlier no_rows (widths_before graph.nodes i) (length n.columns) n.shape
-  widths_fit i n at = nodes_fit_earlier graph i n no_rows is_graph at (λ is. record { some = omega arith; wide = All-nil (λ row. length row ≡ length n.columns) })
+  widths_fit i n at = fit graph i n no_rows is_graph at (λ is. record { some = omega arith; wide = All-nil (λ row. length row ≡ length n.columns) })
 
   -- an earlier source is found among the earlier sets
   pub known_source : (i : ℕ) (n : Node) → slice_get graph.nodes i ≡ Some n → (s : ℕ) → s < length (widths_before graph.nodes i) → (s < i) × (known_at (take i (known_nodes graph.nodes)) s ≡ known_at (known_nodes graph.nodes) s)
@@ -146,8 +154,8 @@ module _ (graph : Content) (is_graph : IsGraph graph) where
       let here : known_at all i ≡ known_group (known_at all g.source) g.keys g.aggregates = known_here graph.nodes i n at ∙ ap (λ shape. known_node shape (take i all)) is ∙ ap (λ k. known_group k g.keys g.aggregates) source.1 in
       what_rows_need.grouped party (known_at all g.source) g.keys (subst (KnowsRows party) here known)
 
-pub nodes_know_from_earlier : NodesKnowFromEarlier
-nodes_know_from_earlier = record { count = known_count; each = known_here; wide = known_width }
+pub nodes_know_from_earlier : NodesFitEarlier → NodesKnowFromEarlier
+nodes_know_from_earlier fit = record { count = known_count; each = known_here; wide = known_width fit }
 
-pub keys_are_known : KeysAreKnown
-keys_are_known = record { joined = joined_keys; grouped = grouped_keys }
+pub keys_are_known : NodesFitEarlier → KeysAreKnown
+keys_are_known fit = record { joined = joined_keys fit; grouped = grouped_keys fit }

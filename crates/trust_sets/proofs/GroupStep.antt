@@ -8,34 +8,33 @@ use Rattle.query_graph.specs.Parties.{has}
 use Rattle.plain_operators.specs.declared.aggregate.Aggregate as plain_aggregate
 use Rattle.plain_operators.specs.Cuts.{GroupDependsOn}
 use Rattle.plain_operators.specs.Operators.{aggregated, aggregates_of, grouped_rows}
+use Rattle.plain_operators.specs.Laws.{WholeTableIsGroup}
 use Rattle.plain_operators.specs.Sizes.{AllWide}
-use Rattle.plain_operators.proofs.Cuts.{aggregates_of_cuts, operators_of_cuts}
-use Rattle.plain_operators.proofs.Groups.{whole_table_is_group}
-use Rattle.plain_operators.proofs.Sizes.{grouped_rows-AllWide}
 use Rattle.plain_meaning.specs.Convert.{aggregate_of}
-use Rattle.plain_meaning.specs.Meaning.{group_rows}
+use Rattle.plain_operators.specs.OnSources.{group_of_rows}
 use Rattle.trust_sets.specs.declared.known.Known.{Known}
 use Rattle.trust_sets.specs.Agreement.{known_columns}
 use Rattle.trust_sets.specs.Known.{aggregate_set, column_set, grouped_set, known_group}
 use Rattle.trust_sets.specs.Steps.{SameFor, SameIfKnown}
 use Rattle.trust_sets.proofs.Alike.{AreAlike, alike_append, alike_cut, alike_itself, columns_depend, word_depends}
+use Rattle.trust_sets.proofs.StepLaws.{StepLaws}
 use Rattle.trust_sets.proofs.Needs.{in_both, what_rows_need}
 
 -- a group without keys is one by no column
-one_group : (keys : List ℕ) (wanted : List plain_aggregate.Aggregate) (rows : List (List ℕ)) → group_rows keys wanted rows ≡ grouped_rows keys wanted rows
-one_group [] wanted rows = whole_table_is_group wanted rows
-one_group (key ∷ keys) wanted rows = refl
+one_group : WholeTableIsGroup → (keys : List ℕ) (wanted : List plain_aggregate.Aggregate) (rows : List (List ℕ)) → group_of_rows keys wanted rows ≡ grouped_rows keys wanted rows
+one_group whole [] wanted rows = whole wanted rows
+one_group whole (key ∷ keys) wanted rows = refl
 
-module _ (party : ℕ) (source : Known) where
+module _ (laws : StepLaws) (party : ℕ) (source : Known) where
   aggregate_same : (rows : Parties) (xs ys : List (List ℕ)) → SameFor party source xs ys → (aggregate : Aggregate) → has (aggregate_set source rows aggregate) party ≡ true
       → aggregated (aggregate_of aggregate) xs ≡ aggregated (aggregate_of aggregate) ys
   aggregate_same rows xs ys same (aggregates.Sum c) known =
-      (aggregates_of_cuts.words (length source.columns) (known_columns party source) c xs ys (word_depends party source c (in_both rows (column_set source c) party known).1) same).0
-  aggregate_same rows xs ys same aggregates.Count known = aggregates_of_cuts.counts (length source.columns) (known_columns party source) xs ys same
+      (laws.aggregates.words (length source.columns) (known_columns party source) c xs ys (word_depends party source c (in_both rows (column_set source c) party known).1) same).0
+  aggregate_same rows xs ys same aggregates.Count known = laws.aggregates.counts (length source.columns) (known_columns party source) xs ys same
   aggregate_same rows xs ys same (aggregates.Least c) known =
-      (aggregates_of_cuts.words (length source.columns) (known_columns party source) c xs ys (word_depends party source c (in_both rows (column_set source c) party known).1) same).1
+      (laws.aggregates.words (length source.columns) (known_columns party source) c xs ys (word_depends party source c (in_both rows (column_set source c) party known).1) same).1
   aggregate_same rows xs ys same (aggregates.Greatest c) known =
-      (aggregates_of_cuts.words (length source.columns) (known_columns party source) c xs ys (word_depends party source c (in_both rows (column_set source c) party known).1) same).2
+      (laws.aggregates.words (length source.columns) (known_columns party source) c xs ys (word_depends party source c (in_both rows (column_set source c) party known).1) same).2
 
   aggregates_alike : (rows : Parties) (xs ys : List (List ℕ)) → SameFor party source xs ys → (wanted : List Aggregate)
       → AreAlike party (map (aggregate_set source rows) wanted) (aggregates_of (map aggregate_of wanted) xs) (aggregates_of (map aggregate_of wanted) ys)
@@ -58,15 +57,15 @@ module _ (party : ℕ) (source : Known) where
       (aggregates_alike rows us vs alike wanted)) in
       let wide : length new.columns ≡ length keys + length all = length-append key_sets sets ∙ (λ i. length-map keys (λ (key : ℕ). rows) i + (length-map wanted (aggregate_set source rows) ∙ sym (length-map wanted aggregate_of)) i) in
       record {
-        wide = subst (λ n. AllWide n (grouped_rows keys all xs)) (sym wide) (grouped_rows-AllWide keys all xs);
-        wide_too = subst (λ n. AllWide n (grouped_rows keys all ys)) (sym wide) (grouped_rows-AllWide keys all ys);
-        bag = operators_of_cuts.grouped keys all (length source.columns) (known_columns party source) (known_columns party new) xs ys (columns_depend party source keys needs.each) depends here;
+        wide = subst (λ n. AllWide n (grouped_rows keys all xs)) (sym wide) (laws.widths.grouped keys all xs);
+        wide_too = subst (λ n. AllWide n (grouped_rows keys all ys)) (sym wide) (laws.widths.grouped keys all ys);
+        bag = laws.cuts.grouped keys all (length source.columns) (known_columns party source) (known_columns party new) xs ys (columns_depend party source keys needs.each) depends here;
       }
 
   pub group_step : (keys : List ℕ) (wanted : List Aggregate) (xs ys : List (List ℕ)) → SameIfKnown party source xs ys
-      → SameIfKnown party (known_group source keys wanted) (group_rows keys (map aggregate_of wanted) xs) (group_rows keys (map aggregate_of wanted) ys)
+      → SameIfKnown party (known_group source keys wanted) (group_of_rows keys (map aggregate_of wanted) xs) (group_of_rows keys (map aggregate_of wanted) ys)
   group_step keys wanted xs ys same known =
       let all = map aggregate_of wanted in
       let new = known_group source keys wanted in
-      subst (λ l. SameFor party new l (group_rows keys all ys)) (sym (one_group keys all xs))
-      (subst (SameFor party new (grouped_rows keys all xs)) (sym (one_group keys all ys)) (grouped_step keys wanted xs ys same known))
+      subst (λ l. SameFor party new l (group_of_rows keys all ys)) (sym (one_group laws.whole keys all xs))
+      (subst (SameFor party new (grouped_rows keys all xs)) (sym (one_group laws.whole keys all ys)) (grouped_step keys wanted xs ys same known))

@@ -6,6 +6,7 @@ pub mod Within
 pub mod Unreleased
 pub mod Breaches
 pub mod RuleLines
+pub mod StepLaws
 pub mod Alike
 pub mod RowSteps
 pub mod GroupStep

@@ -11,6 +11,7 @@ use Rattle.query_graph.specs.declared.operand.Aggregate.TheVariants as aggregate
 use Rattle.query_graph.specs.declared.parties.Parties.{Parties}
 use Rattle.query_graph.specs.Parties.{common_parties, has, no_party}
 use Rattle.plain_operators.specs.Columns.{other_columns}
+use Rattle.plain_operators.specs.Cuts.{OperatorsOfCuts}
 use Rattle.plain_operators.specs.Operators.{left_keys, right_keys}
 use Rattle.plain_operators.specs.Sizes.{AllWide}
 use Rattle.plain_meaning.specs.Meaning.{meanings, rows_of}
@@ -23,7 +24,7 @@ use Rattle.trust_sets.specs.Steps.{SameIfKnown}
 use Rattle.trust_sets.proofs.Alike.{fewer_columns}
 use Rattle.trust_sets.proofs.ConcatStep.{concat_column, concat_rows, concat_wide}
 use Rattle.trust_sets.proofs.Needs.{in_both}
-use Rattle.trust_sets.proofs.TrustLemma.{trust_lemma}
+use Rattle.trust_sets.proofs.TrustLemma.{LemmaLaws, trust_lemma}
 use Rattle.trust_sets.proofs.Within.{in_none}
 
 -- ---- sets behind others, and sets of parts
@@ -109,38 +110,38 @@ what_columns_need = record {
 
 -- ---- the same for a party
 
-pub known_columns_are_same : KnownColumnsAreSame
-known_columns_are_same = record {
-  rows = λ party source columns xs ys all same. fewer_columns party source columns all xs ys same;
+pub known_columns_are_same : LemmaLaws → KnownColumnsAreSame
+known_columns_are_same laws = record {
+  rows = λ party source columns xs ys all same. fewer_columns party source laws.steps.cuts columns all xs ys same;
   nodes = λ graph party world other is_graph is_world is_other agree node columns knows all.
-      fewer_columns party (known_at (known_nodes graph.nodes) node) columns all (rows_of (meanings graph.nodes world) node) (rows_of (meanings graph.nodes other) node)
-      (trust_lemma graph party world other is_graph is_world is_other agree node knows);
+      fewer_columns party (known_at (known_nodes graph.nodes) node) laws.steps.cuts columns all (rows_of (meanings graph.nodes world) node) (rows_of (meanings graph.nodes other) node)
+      (trust_lemma laws graph party world other is_graph is_world is_other agree node knows);
 }
 
-fewer : (party : ℕ) (more less : Known) (xs ys : List (List ℕ)) → length more.columns ≡ length less.columns → (KnowsRows party less → KnowsRows party more)
+fewer : OperatorsOfCuts → (party : ℕ) (more less : Known) (xs ys : List (List ℕ)) → length more.columns ≡ length less.columns → (KnowsRows party less → KnowsRows party more)
     → ((column : ℕ) → KnowsColumn party less column → KnowsColumn party more column) → SameIfKnown party more xs ys → SameIfKnown party less xs ys
-fewer party more less xs ys long rows columns same knows =
+fewer cuts party more less xs ys long rows columns same knows =
     let here = same (rows knows) in
     let passes : All (KnowsColumn party less) (known_columns party less) = filter_passes (λ c. has (column_set less c) party) (range_with_len 0 (length less.columns)) in
     record {
       wide = subst (λ n. AllWide n xs) long here.wide;
       wide_too = subst (λ n. AllWide n ys) long here.wide_too;
-      bag = fewer_columns party more (known_columns party less) (All-weaker (KnowsColumn party less) (KnowsColumn party more) columns (known_columns party less) passes) xs ys here;
+      bag = fewer_columns party more cuts (known_columns party less) (All-weaker (KnowsColumn party less) (KnowsColumn party more) columns (known_columns party less) passes) xs ys here;
     }
 
-part : (party width : ℕ) (sources : List ℕ) (known : ℕ → Known) (place source : ℕ) (xs ys : List (List ℕ)) → All (λ s. length (known s).columns ≡ width) sources
+part : OperatorsOfCuts → (party width : ℕ) (sources : List ℕ) (known : ℕ → Known) (place source : ℕ) (xs ys : List (List ℕ)) → All (λ s. length (known s).columns ≡ width) sources
     → slice_get sources place ≡ Some source → SameIfKnown party (known source) xs ys → SameIfKnown party (known_concat (map known sources)) xs ys
-part party width sources known place source xs ys wide at same =
+part cuts party width sources known place source xs ys wide at same =
     let within = slice_get_within sources place source at in
     let is = get_or_from_slice_get sources place source source at in
     let own : length (known source).columns ≡ width = subst (λ s. length (known s).columns ≡ width) is (wide place source within) in
     let whole = concat_wide width known sources (omega (arith, within)) wide in
-    fewer party (known source) (known_concat (map known sources)) xs ys (own ∙ sym whole)
+    fewer cuts party (known source) (known_concat (map known sources)) xs ys (own ∙ sym whole)
     (λ knows. subst (λ s. KnowsRows party (known s)) is (concat_rows party known sources knows place source within))
     (λ column knows. subst (λ s. KnowsColumn party (known s) column) is (concat_column party known column sources knows place source within)) same
 
-pub rows_narrow : RowsNarrow
-rows_narrow = record { fewer = fewer; part = part }
+pub rows_narrow : OperatorsOfCuts → RowsNarrow
+rows_narrow cuts = record { fewer = fewer cuts; part = part cuts }
 
 -- ---- agreement
 

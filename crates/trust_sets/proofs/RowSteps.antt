@@ -3,8 +3,6 @@ use Rattle.std.proofs.Common.{◌≡◌, ℕ, zero, suc, ◌+◌, ◌<◌, Bool,
 use Rattle.std.specs.List.{All, filter, list_all, range_with_len}
 use Rattle.std.proofs.lemmas.List.{ext_get_or, length-append, length-map}
 use Rattle.std.proofs.lemmas.List.Elements.{All-filter, All-get_or, All-map, All-weaker, filter_agree}
-use Rattle.bags.proofs.Bags.{SameBag-map}
-use Rattle.bags.proofs.Rows.{row_test}
 use Rattle.query_graph.specs.declared.operand.Item.{Item}
 use Rattle.query_graph.specs.declared.operand.Item.TheVariants as items
 use Rattle.query_graph.specs.declared.operand.Operand.{Operand}
@@ -17,17 +15,14 @@ use Rattle.plain_operators.specs.Cuts.{DependsOn, JoinDependsOn, SameCut}
 use Rattle.plain_operators.specs.Items.{compares, computed, holds_of, item_word, operand_word}
 use Rattle.plain_operators.specs.Operators.{distinct_rows, joined_row, joined_rows, kept_rows, left_keys, right_keys, rows_of_items}
 use Rattle.plain_operators.specs.Sizes.{AllWide, joined_width}
-use Rattle.plain_operators.proofs.Cuts.{operators_of_cuts}
-use Rattle.plain_operators.proofs.DistinctRows.{All-distinct_rows}
-use Rattle.plain_operators.proofs.Sizes.{joined_rows-AllWide}
 use Rattle.plain_meaning.specs.Convert.{comparison_of, item_of, operand_of, operation_of, test_of}
-use Rattle.plain_meaning.proofs.Widths.{rows_of_items-AllWide}
 use Rattle.trust_sets.specs.declared.known.Known.{Known}
 use Rattle.trust_sets.specs.Agreement.{known_columns}
 use Rattle.trust_sets.specs.Known.{column_set, distinct_set, item_set, joined_set, known_distinct, known_filter, known_join, known_select, other_sets}
 use Rattle.trust_sets.specs.Laws.{KnowsColumn, KnowsItem, KnowsKey, KnowsOperand, KnowsRows, KnowsTest}
 use Rattle.trust_sets.specs.Steps.{SameIfKnown}
 use Rattle.trust_sets.proofs.Alike.{AreAlike, alike_append, alike_cut, alike_itself, columns_depend, known_word, others_alike, word_depends}
+use Rattle.trust_sets.proofs.StepLaws.{StepLaws}
 use Rattle.trust_sets.proofs.Needs.{in_both, of_each, what_rows_need}
 
 -- the same width and columns under other names
@@ -55,7 +50,7 @@ narrowed_columns party source tests known =
     filter_agree (λ c. has (column_set source c) party) (λ c. has (column_set new c) party) same (range_with_len 0 (length source.columns))
     ∙ ap (λ n. filter (λ c. has (column_set new c) party) (range_with_len 0 n)) (sym (length-map source.columns f))
 
-module _ (party : ℕ) (source : Known) where
+module _ (laws : StepLaws) (party : ℕ) (source : Known) where
   operand_depends : (operand : Operand) → KnowsOperand party source operand → DependsOn (length source.columns) (known_columns party source) (operand_word (operand_of operand))
   operand_depends (operands.Column column) known a b long long_too same = word_depends party source column known a b long long_too same
   operand_depends (operands.Constant word) known a b long long_too same = refl
@@ -86,7 +81,7 @@ module _ (party : ℕ) (source : Known) where
       let depend : All (DependsOn width columns) all =
       All-map (DependsOn width columns) holds_of (map test_of tests) (All-map (λ test. DependsOn width columns (holds_of test)) test_of tests
       (All-weaker (KnowsTest party source) (λ test. DependsOn width columns (holds_of (test_of test))) test_depends tests needs.each)) in
-      let kept : SameCut width columns (kept_rows all xs) (kept_rows all ys) = record { wide = All-filter p P xs here.wide; wide_too = All-filter p P ys here.wide_too; bag = operators_of_cuts.kept width columns all xs ys depend here } in
+      let kept : SameCut width columns (kept_rows all xs) (kept_rows all ys) = record { wide = All-filter p P xs here.wide; wide_too = All-filter p P ys here.wide_too; bag = laws.cuts.kept width columns all xs ys depend here } in
       same_along (kept_rows all xs) (kept_rows all ys) (sym (length-map source.columns (λ set. common_parties set (known_filter source tests).rows))) (narrowed_columns party source tests known) kept
 
   -- the items of two rows
@@ -106,9 +101,9 @@ module _ (party : ℕ) (source : Known) where
       let depends : DependsOn (length source.columns) (known_columns party source) (λ row. cut wanted (map (λ (item : List ℕ → ℕ). item row) words)) = λ a b long long_too e.
       alike_cut party new (map (λ (item : List ℕ → ℕ). item a) words) (map (λ (item : List ℕ → ℕ). item b) words) (items_alike items a b long long_too e) in
       record {
-        wide = subst (λ n. AllWide n (rows_of_items words xs)) many (rows_of_items-AllWide words xs);
-        wide_too = subst (λ n. AllWide n (rows_of_items words ys)) many (rows_of_items-AllWide words ys);
-        bag = operators_of_cuts.items (length source.columns) (known_columns party source) wanted words xs ys depends here;
+        wide = subst (λ n. AllWide n (rows_of_items words xs)) many (laws.widths.items words xs);
+        wide_too = subst (λ n. AllWide n (rows_of_items words ys)) many (laws.widths.items words ys);
+        bag = laws.cuts.items (length source.columns) (known_columns party source) wanted words xs ys depends here;
       }
 
   pub distinct_step : (xs ys : List (List ℕ)) → SameIfKnown party source xs ys → SameIfKnown party (known_distinct source) (distinct_rows xs) (distinct_rows ys)
@@ -117,20 +112,19 @@ module _ (party : ℕ) (source : Known) where
       let here = same needs.rows in
       let new = known_distinct source in
       let count = length source.columns in
-      let P : List ℕ → Type 0 = λ row. length row ≡ count in
       let each : (c : ℕ) → c < count → KnowsColumn party source c = λ c below. All-get_or (λ (set : Parties). has set party ≡ true) source.columns c no_party below needs.each in
       let whole : DependsOn count (known_columns party source) (λ row. row) = λ a b long long_too e.
       ext_get_or 0 a b (long ∙ sym long_too) (λ c below. known_word party source a b e c (each c (subst (λ n. c < n) long below))) in
       let many : count ≡ length new.columns = sym (length-map source.columns (λ set. distinct_set source)) in
       record {
-        wide = subst (λ n. AllWide n (distinct_rows xs)) many (All-distinct_rows P xs here.wide);
-        wide_too = subst (λ n. AllWide n (distinct_rows ys)) many (All-distinct_rows P ys here.wide_too);
-        bag = SameBag-map row_test (cut (known_columns party new)) (operators_of_cuts.distinct count (known_columns party source) xs ys whole here);
+        wide = subst (λ n. AllWide n (distinct_rows xs)) many (laws.widths.distinct count xs here.wide);
+        wide_too = subst (λ n. AllWide n (distinct_rows ys)) many (laws.widths.distinct count ys here.wide_too);
+        bag = laws.maps (cut (known_columns party new)) (distinct_rows xs) (distinct_rows ys) (laws.cuts.distinct count (known_columns party source) xs ys whole here);
       }
 
-pub join_step : (party : ℕ) (left right : Known) (keys : List (ℕ × ℕ)) (xs ys us vs : List (List ℕ)) → SameIfKnown party left xs ys → SameIfKnown party right us vs
+pub join_step : StepLaws → (party : ℕ) (left right : Known) (keys : List (ℕ × ℕ)) (xs ys us vs : List (List ℕ)) → SameIfKnown party left xs ys → SameIfKnown party right us vs
     → SameIfKnown party (known_join left right keys) (joined_rows keys xs us) (joined_rows keys ys vs)
-join_step party left right keys xs ys us vs same same_too known =
+join_step laws party left right keys xs ys us vs same same_too known =
     let needs = what_rows_need.joined party left right keys known in
     let lefts = same needs.on_left in
     let rights = same_too needs.on_right in
@@ -158,8 +152,8 @@ join_step party left right keys xs ys us vs same same_too known =
     let right_many = length-map (other_columns rk b_width) (λ c. common_parties rows (column_set right c)) in
     let wide : length new.columns ≡ joined_width keys a_width b_width = length-append key_sets (left_sets ++ right_sets) ∙ (λ i. length-map keys (λ (key : ℕ × ℕ). rows) i + (length-append left_sets right_sets ∙ (λ j. left_many j + right_many j)) i) in
     record {
-      wide = subst (λ n. AllWide n (joined_rows keys xs us)) (sym wide) (joined_rows-AllWide keys a_width b_width xs us lefts.wide rights.wide);
-      wide_too = subst (λ n. AllWide n (joined_rows keys ys vs)) (sym wide) (joined_rows-AllWide keys a_width b_width ys vs lefts.wide_too rights.wide_too);
-      bag = operators_of_cuts.joined keys a_width b_width (known_columns party left) (known_columns party right) (known_columns party new) xs ys us vs
+      wide = subst (λ n. AllWide n (joined_rows keys xs us)) (sym wide) (laws.widths.joined keys a_width b_width xs us lefts.wide rights.wide);
+      wide_too = subst (λ n. AllWide n (joined_rows keys ys vs)) (sym wide) (laws.widths.joined keys a_width b_width ys vs lefts.wide_too rights.wide_too);
+      bag = laws.cuts.joined keys a_width b_width (known_columns party left) (known_columns party right) (known_columns party new) xs ys us vs
           (columns_depend party left lk left_known) (columns_depend party right rk right_known) depends lefts rights;
     }

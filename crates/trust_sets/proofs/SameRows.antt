@@ -8,9 +8,8 @@ use Rattle.std.proofs.lemmas.Slice.Eq.{slice_eq-Decides}
 use Rattle.std.specs.Option.{option_map}
 use Rattle.tables.specs.Content as table
 use Rattle.plain_meaning.specs.Plain.{rows_of_tables}
-use Rattle.bags.proofs.Rows.{row_order, row_test}
-use Rattle.bags.proofs.Sorting.{sorted_by-SameBag, SameBag-from_sorted_by}
 use Rattle.bags.specs.Bag.{SameBag, row_eq}
+use Rattle.bags.specs.Laws.{SortedTellsBags}
 use Rattle.bags.specs.Sorted.{sorted}
 
 module _ (xs ys : List (List ℕ)) where
@@ -45,8 +44,9 @@ same_lent (x ∷ xs) [] = refl
 same_lent (x ∷ xs) (y ∷ ys) = ap (λ b. row_eq x.now y.now && b) (same_lent xs ys)
 
 -- sorted lists are the same where the bags are
-pub same_sorted : (xs ys us vs : List (Bor (List ℕ))) (result : Bool) → map (λ row. row.now) us ≡ sorted (map (λ row. row.now) xs) → map (λ row. row.now) vs ≡ sorted (map (λ row. row.now) ys)
+pub same_sorted : SortedTellsBags → (xs ys us vs : List (Bor (List ℕ))) (result : Bool) → map (λ row. row.now) us ≡ sorted (map (λ row. row.now) xs) → map (λ row. row.now) vs ≡ sorted (map (λ row. row.now) ys)
     → result ≡ pointwise (λ a b. row_eq a.now b.now) us vs → IsTrue result ↔ SameBag (map (λ row. row.now) xs) (map (λ row. row.now) ys)
-same_sorted xs ys us vs result left right is =
+same_sorted tells xs ys us vs result left right is =
     let decides = slice_eq-Decides bytes_decides (map (λ row. row.now) us) (map (λ row. row.now) vs) result (is ∙ same_lent us vs) in
-    (λ same. SameBag-from_sorted_by row_order (sym left ∙ decides.0 same ∙ right), λ bag. decides.1 (left ∙ sorted_by-SameBag row_order row_test bag ∙ sym right))
+    let sorts = tells (map (λ row. row.now) xs) (map (λ row. row.now) ys) in
+    (λ same. sorts.1 (sym left ∙ decides.0 same ∙ right), λ bag. decides.1 (left ∙ sorts.0 bag ∙ sym right))

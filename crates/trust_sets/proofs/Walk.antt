@@ -14,7 +14,8 @@ use Rattle.query_graph.specs.declared.operator.Operator.TheVariants as operators
 use Rattle.query_graph.specs.declared.operator.Relation.{Relation}
 use Rattle.plain_meaning.specs.Fits.{AreRowsOf, IsWorldOf, relations}
 use Rattle.plain_meaning.specs.Laws.{relations_before}
-use Rattle.plain_meaning.specs.Meaning.{is_relation, rows_of}
+use Rattle.query_graph.specs.Observers.{is_relation}
+use Rattle.plain_meaning.specs.Meaning.{rows_of}
 use Rattle.plain_operators.specs.Cuts.{CutsAgree}
 use Rattle.trust_sets.specs.declared.known.Known.{Known}
 use Rattle.trust_sets.specs.Known.{known_at}

@@ -9,6 +9,7 @@ use Rattle.query_graph.specs.declared.operator.Operator.{Operator}
 use Rattle.query_graph.specs.declared.operator.Operator.TheVariants as operators
 use Rattle.query_graph.specs.Content.{Content}
 use Rattle.query_graph.specs.Parties.{has}
+use Rattle.plain_operators.specs.Columns.{is_key}
 use Rattle.trust_sets.specs.declared.fault.TrustFault.{TrustFault}
 use Rattle.trust_sets.specs.declared.fault.TrustFault.TheVariants as faults
 use Rattle.trust_sets.specs.declared.known.Known.{Known}
@@ -26,9 +27,6 @@ place_of (operators.Concat c) = None
 place_of (operators.Join j) = option_or j.via j.clear_at
 place_of (operators.Group g) = option_or g.via g.clear_at
 place_of (operators.Distinct d) = d.clear_at
-
-abbrev pub is_key : List ℕ → ℕ → Bool
-is_key keys column = list_any (λ key. key == column) keys
 
 -- a key of a join on the right, or on the left
 abbrev pub is_key_of_side : Bool → List (ℕ × ℕ) → ℕ → Bool

@@ -11,7 +11,8 @@ use Rattle.plain_operators.specs.Items.{holds_of, item_word}
 use Rattle.plain_operators.specs.Operators.{distinct_rows, joined_rows, kept_rows, rows_of_items}
 use Rattle.plain_meaning.specs.Convert.{aggregate_of, item_of, test_of}
 use Rattle.plain_meaning.specs.Fits.{IsWorldOf}
-use Rattle.plain_meaning.specs.Meaning.{group_rows, meanings, rows_of}
+use Rattle.plain_operators.specs.OnSources.{group_of_rows}
+use Rattle.plain_meaning.specs.Meaning.{meanings, rows_of}
 use Rattle.trust_sets.specs.declared.known.Known.{Known}
 use Rattle.trust_sets.specs.Agreement.{FilesAgree, known_columns}
 use Rattle.trust_sets.specs.Known.{known_at, known_concat, known_distinct, known_filter, known_group, known_join, known_nodes, known_select}
@@ -37,7 +38,7 @@ pub record TrustSteps : Type 0 where
   pub join : (party : ℕ) (left right : Known) (keys : List (ℕ × ℕ)) (xs ys us vs : List (List ℕ)) → SameIfKnown party left xs ys → SameIfKnown party right us vs
       → SameIfKnown party (known_join left right keys) (joined_rows keys xs us) (joined_rows keys ys vs)
   pub group : (party : ℕ) (source : Known) (keys : List ℕ) (aggregates : List Aggregate) (xs ys : List (List ℕ)) → SameIfKnown party source xs ys
-      → SameIfKnown party (known_group source keys aggregates) (group_rows keys (map aggregate_of aggregates) xs) (group_rows keys (map aggregate_of aggregates) ys)
+      → SameIfKnown party (known_group source keys aggregates) (group_of_rows keys (map aggregate_of aggregates) xs) (group_of_rows keys (map aggregate_of aggregates) ys)
   pub distinct : (party : ℕ) (source : Known) (xs ys : List (List ℕ)) → SameIfKnown party source xs ys
       → SameIfKnown party (known_distinct source) (distinct_rows xs) (distinct_rows ys)
 

@@ -6,10 +6,10 @@ ghost use Rattle.trust_sets.specs.Faults as faults;
 ghost use Rattle.trust_sets.specs.Known.{known_at};
 ghost use Rattle.query_graph.specs.IsGraph.{IsGraph};
 
-use crate::columns::is_key;
 use crate::fault::TrustFault;
 use crate::trust::Trust;
 use crate::withheld::{Withheld, withheld_at};
+use plain_operators::is_key;
 use query_graph::{Graph, Node, Operator, Output};
 use words::Column;
 

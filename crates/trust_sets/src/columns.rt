@@ -1,13 +1,14 @@
 //! Lists of the sets of a node's columns.
 #![tactic(auto)]
 
-ghost use Rattle.std.specs.Prelude.{◌≡◌, ◌++◌, ◌==◌, map, IfOk, OnOk};
-ghost use Rattle.std.specs.List.{list_any, zip};
+ghost use Rattle.std.specs.Prelude.{◌≡◌, ◌++◌, map, IfOk, OnOk};
+ghost use Rattle.std.specs.List.{zip};
 ghost use Rattle.query_graph.specs.Parties.{common_parties, with_party};
 ghost use Rattle.query_text.specs.Parties.{IsParty};
 ghost use Rattle.trust_sets.specs.Known as known;
 
 use crate::known::Known;
+use plain_operators::is_key;
 use query_graph::{Aggregate, Item, Parties};
 use std::alloc::{AllocError, Global};
 
@@ -103,11 +104,4 @@ pub(crate) fn add_others(
         }
     }
     Ok(())
-}
-
-// Whether a column is among these.
-pub(crate) fn is_key(keys: &[u32], column: usize) -> bool
-    ensures { result ≡ list_any (λ key. key == column) keys.now }
-{
-    keys.iter().any(|key| *key as usize == column)
 }

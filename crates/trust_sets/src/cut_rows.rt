@@ -11,6 +11,7 @@ ghost use Rattle.trust_sets.specs.Known.{known_at};
 
 use crate::known::Known;
 use crate::trust::Trust;
+use bags::laws::sorted_tells_bags;
 use bags::sort_rows;
 use std::alloc::{AllocError, Global};
 use tables::Table;
@@ -86,6 +87,7 @@ fn lend(alloc: Global, rows: &[Vec<u64>]) -> Result<Vec<&[u64]>, AllocError>
 pub(crate) fn same_bag(mut left: Vec<&[u64]>, mut right: Vec<&[u64]>) -> bool
     ensures { IsTrue result ↔ SameBag (lent left.entry.items) (lent right.entry.items) }
 {
+    sorted_tells_bags();
     sort_rows(&mut left);
     sort_rows(&mut right);
     left.as_slice() == right.as_slice()

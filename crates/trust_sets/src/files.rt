@@ -4,7 +4,7 @@
 ghost use Rattle.std.specs.Prelude.{◌≡◌, ◌≢◌, ◌<◌, ◌^◌, ◌↔◌, length, IsTrue, IfOk};
 ghost use Rattle.query_graph.specs.declared.operator.Relation.{Relation};
 ghost use Rattle.plain_meaning.specs.Fits.{IsWorldOf};
-ghost use Rattle.plain_meaning.specs.Meaning.{is_relation, rows_of};
+ghost use Rattle.plain_meaning.specs.Meaning.{rows_of};
 ghost use Rattle.plain_meaning.specs.Plain.{rows_of_tables};
 ghost use Rattle.plain_operators.specs.Cuts.{CutsAgree};
 ghost use Rattle.trust_sets.specs.Agreement.{OwnFileAgrees, TrustedPartAgrees, known_columns};
@@ -18,12 +18,6 @@ use plain_meaning::World;
 use query_graph::{Node, Operator};
 use std::alloc::{AllocError, Global};
 use tables::Table;
-
-fn is_relation(shape: &Operator) -> bool
-    ensures { result ≡ is_relation shape.now }
-{
-    matches!(shape, Operator::Relation(_))
-}
 
 // Whether both have the same rows in the same order.
 fn same_rows(left: &Table, right: &Table) -> bool
@@ -68,7 +62,7 @@ pub(crate) fn first_own_file(nodes: &[Node], party: u8, world: &World, other: &W
         if !own_file_agrees(&node.shape, party, file, world, other) {
             return Some(number as u32);
         }
-        file += usize::from(is_relation(&node.shape));
+        file += usize::from(node.shape.is_relation());
     }
     None
 }
@@ -143,7 +137,7 @@ pub(crate) fn first_trusted_part(
         if !agrees {
             return Ok(Some(at));
         }
-        file += usize::from(is_relation(&node.shape));
+        file += usize::from(node.shape.is_relation());
     }
     Ok(None)
 }

@@ -5,13 +5,13 @@ ghost use Rattle.std.specs.Prelude.{◌≡◌, map, IfOk};
 ghost use Rattle.query_graph.specs.Parties.{no_party, united_parties};
 ghost use Rattle.query_text.specs.Parties.{IsParty};
 ghost use Rattle.std.specs.List.{fold};
-ghost use Rattle.plain_operators.specs.Operators.{left_keys, right_keys};
 ghost use Rattle.trust_sets.specs.Known as known;
 
 use crate::columns::{
     add_aggregates, add_others, item_sets, met, narrowed, same_for_each, with_owner,
 };
 use crate::known::Known;
+use plain_operators::{left_keys, right_keys};
 use query_graph::{Group, Parties, Relation, Select, Test};
 use query_text::Sequence;
 use std::alloc::{AllocError, Global};
@@ -83,18 +83,6 @@ pub(crate) fn known_join(
     add_others(left, &left_keys, rows, &mut columns)?;
     add_others(right, &right_keys, rows, &mut columns)?;
     Ok(known(rows, columns))
-}
-
-fn left_keys(alloc: Global, keys: &[(u32, u32)]) -> Result<Vec<u32>, AllocError>
-    ensures { IfOk result (λ columns. columns.items ≡ left_keys keys.now) }
-{
-    keys.iter().map(|key| key.0).collect(alloc)
-}
-
-fn right_keys(alloc: Global, keys: &[(u32, u32)]) -> Result<Vec<u32>, AllocError>
-    ensures { IfOk result (λ columns. columns.items ≡ right_keys keys.now) }
-{
-    keys.iter().map(|key| key.1).collect(alloc)
 }
 
 pub(crate) fn known_group(alloc: Global, source: &Known, group: &Group) -> Result<Known, AllocError>

@@ -3,7 +3,7 @@ use Rattle.outside.specs.Cause.{Rose}
 use Rattle.conclave_top.specs.Bounds.{first_bound}
 use Rattle.conclave_top.specs.End.{Ended}
 use Rattle.conclave_top.specs.Plain.{IsDueOver}
-use Rattle.conclave_top.specs.Relations.{files_of}
+use Rattle.conclave_top.specs.Relations.{file_names}
 use Rattle.conclave_top.proofs.Ends.{ended_bounded, ended_unbounded, front_then, risen_before}
 use Rattle.conclave_top.proofs.plain.plain.Goals as goal
 
@@ -39,6 +39,6 @@ returns-clause-calls g c =
       graph = graph;
       has = c.in-Ok.ensures.compiles;
       unbounded = none;
-      calls = front_then c.args.query.now (files_of graph.nodes) (g.F.Folder.calls c.args.files.now) (g.F.Folder.calls c.compile_file.new.files) (g.F.Folder.calls c.over_graph.new.files)
+      calls = front_then c.args.query.now (file_names graph.nodes) (g.F.Folder.calls c.args.files.now) (g.F.Folder.calls c.compile_file.new.files) (g.F.Folder.calls c.over_graph.new.files)
           c.in-Ok.ensures.called c.over_graph.ensures.calls;
     })

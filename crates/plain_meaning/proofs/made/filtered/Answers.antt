@@ -6,11 +6,10 @@ use Rattle.plain_operators.specs.Limits.{first_of}
 use Rattle.plain_operators.specs.Operators.{kept_rows}
 use Rattle.plain_operators.specs.Sizes.{AllWide}
 use Rattle.plain_operators.specs.Within.{IsTestOf}
-use Rattle.plain_operators.proofs.Limits.{All-first_of}
 use Rattle.plain_meaning.specs.Convert.{test_of}
 use Rattle.plain_meaning.specs.Fits.{width_at, widths_of}
 use Rattle.plain_meaning.specs.Meaning.{rows_of}
-use Rattle.plain_meaning.proofs.Widths.{fits_rows, wide_rows}
+use Rattle.plain_meaning.proofs.Widths.{All-first_of, fits_rows, wide_rows}
 use Rattle.plain_meaning.proofs.made.filtered.Goals as goal
 
 pub kept_rows-requires : goal.kept_rows-requires

@@ -4,11 +4,9 @@ use Rattle.plain_operators.specs.Limits.{first_of}
 use Rattle.plain_operators.specs.Operators.{joined_rows, left_keys, right_keys}
 use Rattle.plain_operators.specs.Sizes.{AllWide, joined_width}
 use Rattle.plain_operators.specs.Within.{HasColumns}
-use Rattle.plain_operators.proofs.Limits.{All-first_of}
-use Rattle.plain_operators.proofs.Sizes.{joined_rows-AllWide}
 use Rattle.plain_meaning.specs.Fits.{width_at, widths_of}
 use Rattle.plain_meaning.specs.Meaning.{rows_of}
-use Rattle.plain_meaning.proofs.Widths.{fits_rows, wide_rows}
+use Rattle.plain_meaning.proofs.Widths.{All-first_of, fits_rows, wide_rows}
 use Rattle.plain_meaning.proofs.made.joined.Goals as goal
 
 pub joined_rows-requires-clause-of_left : goal.joined_rows-requires-clause-of_left
@@ -42,5 +40,5 @@ table_of_made-requires c =
     let w = joined_width keys a b in
     let all = joined_rows keys lefts rights in
     let limit = c.limit_of-limit.result in
-    let wide : AllWide w (first_of limit all) = All-first_of limit (λ row. length row ≡ w) all (joined_rows-AllWide keys a b lefts rights wide_left wide_right) in
+    let wide : AllWide w (first_of limit all) = All-first_of limit (λ row. length row ≡ w) all (c.operators_keep_widths.ensures.joined keys a b lefts rights wide_left wide_right) in
     wide_rows listed c.deref-3.result.now (first_of limit all) w (length c.args.columns.items) (ap (map listed) c.deref-3.ensures.value ∙ c.in_ok-made.ensures) wide (ap (λ k. joined_width k a b) c.as_slice.ensures ∙ c.requires.same)

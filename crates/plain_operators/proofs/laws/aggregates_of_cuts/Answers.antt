@@ -3,3 +3,10 @@ use Rattle.plain_operators.proofs.laws.aggregates_of_cuts.Goals as goal
 
 pub returns : goal.returns
 returns c = aggregates_of_cuts
+    (record {
+      keep = c.bags_keep_rows.ensures;
+      append = c.bags_of_append.ensures;
+      maps = c.bags_of_map.ensures;
+      images = c.bags_of_tested_images.ensures;
+      folds = c.fold_of_words.ensures;
+    })
