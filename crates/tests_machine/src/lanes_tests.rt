@@ -1,5 +1,6 @@
 use lanes::{
-    Listed, Party, Three, Words, ceil_log2, pick_words, shared_and, shared_ands, xor_into, xor_words,
+    Listed, Party, Three, Words, ceil_log2, pick_words, shared_and, shared_ands, xor_into,
+    xor_words,
 };
 use std::test::Fail;
 

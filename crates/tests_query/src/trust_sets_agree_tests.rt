@@ -84,70 +84,93 @@ fn difference(
     )?)
 }
 
+const OVER: Option<Flag> = Some(Flag {
+    node: 4,
+    party: 1,
+    of_parts: false,
+});
+
+const OTHER_PEOPLE: &[&[u64]] = &[&[101, 2139], &[100, 2139], &[102, 94110], &[103, 10001]];
+
+const REORDERED: &[&[u64]] = &[&[102, 600], &[100, 700], &[101, 650]];
+
+const OTHER_SSN: &[&[u64]] = &[&[100, 700], &[105, 650], &[102, 600]];
+
+const OTHER_SCORE: &[&[u64]] = &[&[100, 700], &[101, 651], &[102, 600]];
+
+const UNUSED_SCORE: &[&[u64]] = &[&[100, 710], &[102, 640], &[999, 501]];
+
+const TWICE: &[&[u64]] = &[&[100, 710], &[102, 640], &[102, 500]];
+
+// The files of another world, the flags of both, and what differs.
+type Case = (
+    [&'static [&'static [u64]]; 3],
+    Option<Flag>,
+    Option<Flag>,
+    Option<Differs>,
+);
+
+const CASES: &[Case] = &[
+    ([PEOPLE, REORDERED, SCORES3], None, None, None),
+    ([PEOPLE, SCORES2, UNUSED_SCORE], None, None, None),
+    (
+        [OTHER_PEOPLE, OTHER_SSN, SCORES3],
+        None,
+        OVER,
+        Some(Differs::OwnFile { relation: 0 }),
+    ),
+    (
+        [PEOPLE, OTHER_SSN, TWICE],
+        None,
+        OVER,
+        Some(Differs::Trusted { relation: 1 }),
+    ),
+    (
+        [PEOPLE, SCORES2, TWICE],
+        None,
+        None,
+        Some(Differs::Trusted { relation: 2 }),
+    ),
+    (
+        [PEOPLE, OTHER_SCORE, SCORES3],
+        None,
+        None,
+        Some(Differs::Answer { output: 5 }),
+    ),
+    ([PEOPLE, OTHER_SCORE, SCORES3], OVER, OVER, None),
+    (
+        [PEOPLE, OTHER_SCORE, SCORES3],
+        None,
+        OVER,
+        Some(Differs::Excess {
+            first: None,
+            second: OVER,
+        }),
+    ),
+    (
+        [PEOPLE, SCORES2, SCORES3],
+        OVER,
+        None,
+        Some(Differs::Excess {
+            first: OVER,
+            second: None,
+        }),
+    ),
+    ([PEOPLE, SCORES2, SCORES3], None, None, None),
+];
+
+// The first of the cases in which something else differs.
+fn first_other(alloc: Global, cases: &[Case]) -> Result<Option<usize>, Fail> {
+    for (index, (files, excess, other_excess, want)) in cases.iter().enumerate() {
+        if difference(alloc, files, *excess, *other_excess)? != *want {
+            return Ok(Some(index));
+        }
+    }
+    Ok(None)
+}
+
 #[test]
 fn tells_the_first_part_that_differs(rt: HostRuntime) -> Result<(), Fail> {
-    let flag = Flag {
-        node: 4,
-        party: 1,
-        of_parts: false,
-    };
-    let over = Some(flag);
-    let other_people: &[&[u64]] = &[&[101, 2139], &[100, 2139], &[102, 94110], &[103, 10001]];
-    let reordered: &[&[u64]] = &[&[102, 600], &[100, 700], &[101, 650]];
-    let other_ssn: &[&[u64]] = &[&[100, 700], &[105, 650], &[102, 600]];
-    let other_score: &[&[u64]] = &[&[100, 700], &[101, 651], &[102, 600]];
-    let unused_score: &[&[u64]] = &[&[100, 710], &[102, 640], &[999, 501]];
-    let twice: &[&[u64]] = &[&[100, 710], &[102, 640], &[102, 500]];
-    let cases: [([&[&[u64]]; 3], Option<Flag>, Option<Flag>, Option<Differs>); 10] = [
-        ([PEOPLE, reordered, SCORES3], None, None, None),
-        ([PEOPLE, SCORES2, unused_score], None, None, None),
-        (
-            [other_people, other_ssn, SCORES3],
-            None,
-            over,
-            Some(Differs::OwnFile { relation: 0 }),
-        ),
-        (
-            [PEOPLE, other_ssn, twice],
-            None,
-            over,
-            Some(Differs::Trusted { relation: 1 }),
-        ),
-        (
-            [PEOPLE, SCORES2, twice],
-            None,
-            None,
-            Some(Differs::Trusted { relation: 2 }),
-        ),
-        (
-            [PEOPLE, other_score, SCORES3],
-            None,
-            None,
-            Some(Differs::Answer { output: 5 }),
-        ),
-        ([PEOPLE, other_score, SCORES3], over, over, None),
-        (
-            [PEOPLE, other_score, SCORES3],
-            None,
-            over,
-            Some(Differs::Excess {
-                first: None,
-                second: over,
-            }),
-        ),
-        (
-            [PEOPLE, SCORES2, SCORES3],
-            over,
-            None,
-            Some(Differs::Excess {
-                first: over,
-                second: None,
-            }),
-        ),
-        ([PEOPLE, SCORES2, SCORES3], None, None, None),
-    ];
-    for (files, excess, other_excess, want) in cases {
-        assert_eq!(rt; difference(rt.alloc(), &files, excess, other_excess)?, want);
-    }
+    assert_eq!(rt; first_other(rt.alloc(), CASES)?, None);
     Ok(())
 }

@@ -66,69 +66,91 @@ fn first_other(alloc: Global, text: &[u8], want: &[&[&[u8]]]) -> Result<Option<u
     Ok(if all { None } else { Some(want.len()) })
 }
 
+const CREDIT_SETS: &[&[&[u8]]] = &[
+    &[b"1", b"1", b"1"],
+    &[b"12", b"12", b"2"],
+    &[b"13", b"13", b"3"],
+    &[b"1", b"1", b""],
+    &[b"1", b"1", b"1", b""],
+    &[b"1", b"1", b"", b"1"],
+];
+
 #[test]
 fn credit_study_is_known_to_the_party_that_joins(rt: HostRuntime) -> Result<(), Fail> {
-    let want: &[&[&[u8]]] = &[
-        &[b"1", b"1", b"1"],
-        &[b"12", b"12", b"2"],
-        &[b"13", b"13", b"3"],
-        &[b"1", b"1", b""],
-        &[b"1", b"1", b"1", b""],
-        &[b"1", b"1", b"", b"1"],
-    ];
-    assert_eq!(rt; first_other(rt.alloc(), CREDIT, want)?, None);
+    assert_eq!(rt; first_other(rt.alloc(), CREDIT, CREDIT_SETS)?, None);
     Ok(())
 }
+
+const OPERATOR_SETS: &[&[&[u8]]] = &[
+    &[b"123", b"123", b"12", b"1"],
+    &[b"123", b"12", b"123"],
+    &[b"123", b"23", b"3", b"123"],
+    &[b"1", b"1", b"1", b"1"],
+    &[b"12", b"12", b"12", b"1"],
+    &[b"1", b"1", b"1", b"1"],
+    &[b"123", b"123", b"12", b"1"],
+    &[b"123", b"123", b"1", b"123", b"12"],
+    &[b"123", b"23", b"", b"1"],
+    &[b"1", b"1", b"1", b"1"],
+    &[b"12", b"12", b"12", b"1", b"12"],
+    &[b"12", b"12", b"12", b"12", b"1", b"12"],
+    &[b"123", b"123", b"1"],
+    &[b"1", b"1", b"1", b"1"],
+    &[b"12", b"12", b"12"],
+];
 
 #[test]
 fn each_operator_has_its_sets(rt: HostRuntime) -> Result<(), Fail> {
-    let want: &[&[&[u8]]] = &[
-        &[b"123", b"123", b"12", b"1"],
-        &[b"123", b"12", b"123"],
-        &[b"123", b"23", b"3", b"123"],
-        &[b"1", b"1", b"1", b"1"],
-        &[b"12", b"12", b"12", b"1"],
-        &[b"1", b"1", b"1", b"1"],
-        &[b"123", b"123", b"12", b"1"],
-        &[b"123", b"123", b"1", b"123", b"12"],
-        &[b"123", b"23", b"", b"1"],
-        &[b"1", b"1", b"1", b"1"],
-        &[b"12", b"12", b"12", b"1", b"12"],
-        &[b"12", b"12", b"12", b"12", b"1", b"12"],
-        &[b"123", b"123", b"1"],
-        &[b"1", b"1", b"1", b"1"],
-        &[b"12", b"12", b"12"],
-    ];
-    assert_eq!(rt; first_other(rt.alloc(), OPERATORS, want)?, None);
+    assert_eq!(rt; first_other(rt.alloc(), OPERATORS, OPERATOR_SETS)?, None);
     Ok(())
 }
 
-fn untrusted(line: u32, node: u32, origin: u32, party: u8, column: u32) -> Result<(), TrustFault> {
-    Err(TrustFault::Trust {
-        line,
-        node,
-        origin,
-        party,
-        column,
-    })
+// Whether a fault has these parts: the line, node, origin, party and column of one of trust, the line, output, party
+// and relation of one of a release; none of no fault.
+fn has_parts(found: Result<(), TrustFault>, parts: &[u32]) -> bool {
+    match found {
+        Ok(()) => parts.is_empty(),
+        Err(
+            TrustFault::Trust {
+                line,
+                node,
+                origin,
+                party,
+                column,
+            },
+        ) => parts == [line, node, origin, u32::from(party), column].as_slice(),
+        Err(
+            TrustFault::Release {
+                line,
+                output,
+                party,
+                relation,
+            },
+        ) => parts == [line, output, u32::from(party), relation].as_slice(),
+    }
 }
 
-fn unreleased(line: u32, output: u32, party: u8, relation: u32) -> Result<(), TrustFault> {
-    Err(TrustFault::Release {
-        line,
-        output,
-        party,
-        relation,
-    })
-}
-
-fn check(alloc: Global, head: &[u8], more: &[u8]) -> Result<Result<(), TrustFault>, Fail> {
+fn check(alloc: Global, head: &[u8], more: &[u8], parts: &[u32]) -> Result<bool, Fail> {
     let mut text = Vec::new(alloc);
     text.extend_from_slice(head)?;
     text.extend_from_slice(more)?;
     let graph = graph_of(alloc, &text)?;
     let trust = derive_trust(alloc, &graph)?;
-    Ok(check_trust(&graph, &trust))
+    Ok(has_parts(check_trust(&graph, &trust), parts))
+}
+
+// The first of the texts behind the relations that has another fault.
+fn first_other_fault(
+    alloc: Global,
+    head: &[u8],
+    cases: &[(&[u8], &[u32])],
+) -> Result<Option<usize>, Fail> {
+    for (index, (more, parts)) in cases.iter().enumerate() {
+        if !check(alloc, head, more, parts)? {
+            return Ok(Some(index));
+        }
+    }
+    Ok(None)
 }
 
 const JOINED: &[u8] = b"relation b of 1 rows 2 (k num, v num)
@@ -136,63 +158,48 @@ relation a of 2 rows 2 (k num trust 1, s num)
 f = filter a where s > 5
 ";
 
+const NAMED: &[(&[u8], &[u32])] = &[
+    (b"j = join b f on k via 1\noutput j to 2", &[4, 3, 2, 1, 0]),
+    (b"j = join f b on k via 1\noutput j to 2", &[4, 3, 2, 1, 0]),
+    (b"j = join b a on k via 1\noutput j to 2", &[]),
+    (b"j = join a b on k via 2\noutput j to 2", &[4, 3, 0, 2, 0]),
+    (b"j = join b f on k via 3\noutput j to 2", &[4, 3, 0, 3, 0]),
+    (
+        b"j = join b a on k clear at 1\noutput j to 2",
+        &[4, 3, 1, 1, 1],
+    ),
+    (
+        b"g = group a by s, k (n = count) via 3\noutput g to 2",
+        &[4, 3, 1, 3, 0],
+    ),
+    (
+        b"g = group a by s, k (n = count) via 1\noutput g to 2",
+        &[4, 3, 1, 1, 1],
+    ),
+    (b"g = group a by k (n = sum s) via 1\noutput g to 2", &[]),
+    (
+        b"g = group a by k (n = sum s) clear at 1\noutput g to 2",
+        &[4, 3, 1, 1, 1],
+    ),
+    (b"g = group a (n = count) clear at 2\noutput g to 2", &[]),
+    (
+        b"h = filter a where k > 5 clear at 1\noutput h to 2",
+        &[4, 3, 1, 1, 1],
+    ),
+    (
+        b"t = select a (k) clear at 1\noutput t to 2",
+        &[4, 3, 1, 1, 1],
+    ),
+    (
+        b"d = distinct a clear at 1\noutput d to 2",
+        &[4, 3, 1, 1, 1],
+    ),
+    (b"d = distinct a clear at 2\noutput d to 2", &[]),
+];
+
 #[test]
 fn named_parties_are_trusted_with_what_they_need(rt: HostRuntime) -> Result<(), Fail> {
-    let head: &[u8] = JOINED;
-    let cases: [(&[u8], Result<(), TrustFault>); 15] = [
-        (
-            b"j = join b f on k via 1\noutput j to 2",
-            untrusted(4, 3, 2, 1, 0),
-        ),
-        (
-            b"j = join f b on k via 1\noutput j to 2",
-            untrusted(4, 3, 2, 1, 0),
-        ),
-        (b"j = join b a on k via 1\noutput j to 2", Ok(())),
-        (
-            b"j = join a b on k via 2\noutput j to 2",
-            untrusted(4, 3, 0, 2, 0),
-        ),
-        (
-            b"j = join b f on k via 3\noutput j to 2",
-            untrusted(4, 3, 0, 3, 0),
-        ),
-        (
-            b"j = join b a on k clear at 1\noutput j to 2",
-            untrusted(4, 3, 1, 1, 1),
-        ),
-        (
-            b"g = group a by s, k (n = count) via 3\noutput g to 2",
-            untrusted(4, 3, 1, 3, 0),
-        ),
-        (
-            b"g = group a by s, k (n = count) via 1\noutput g to 2",
-            untrusted(4, 3, 1, 1, 1),
-        ),
-        (b"g = group a by k (n = sum s) via 1\noutput g to 2", Ok(())),
-        (
-            b"g = group a by k (n = sum s) clear at 1\noutput g to 2",
-            untrusted(4, 3, 1, 1, 1),
-        ),
-        (b"g = group a (n = count) clear at 2\noutput g to 2", Ok(())),
-        (
-            b"h = filter a where k > 5 clear at 1\noutput h to 2",
-            untrusted(4, 3, 1, 1, 1),
-        ),
-        (
-            b"t = select a (k) clear at 1\noutput t to 2",
-            untrusted(4, 3, 1, 1, 1),
-        ),
-        (
-            b"d = distinct a clear at 1\noutput d to 2",
-            untrusted(4, 3, 1, 1, 1),
-        ),
-        (b"d = distinct a clear at 2\noutput d to 2", Ok(())),
-    ];
-    for (more, want) in cases {
-        let found = check(rt.alloc(), head, more)?;
-        assert_eq!(rt; found, want, "behind the relations: {more:?}");
-    }
+    assert_eq!(rt; first_other_fault(rt.alloc(), JOINED, NAMED)?, None);
     Ok(())
 }
 
@@ -201,58 +208,51 @@ relation s of 2 rows 2 (x num) release 3
 relation u of 3 rows 2 (x num)
 ";
 
+const OUTPUTS: &[(&[u8], &[u32])] = &[
+    (b"output r to 1", &[]),
+    (b"output r to 1 2 3", &[4, 0, 2, 0]),
+    (b"output s to 2 3", &[]),
+    (b"output s to 1", &[4, 1, 1, 1]),
+    (b"output u to 1 2 3", &[]),
+    (b"c = concat u s r\noutput c to 3", &[5, 3, 3, 0]),
+    (b"c = concat s r\noutput c to 1 3", &[5, 3, 1, 1]),
+    (
+        b"j = join u s on x\ng = group j by x (n = count)\noutput g to 1",
+        &[6, 4, 1, 1],
+    ),
+    (
+        b"f = filter s where x > 1\nt = select f (y = 1)\noutput t to 1",
+        &[6, 4, 1, 1],
+    ),
+    (
+        b"d = distinct r\noutput u to 1\noutput d to 1 3",
+        &[6, 3, 3, 0],
+    ),
+];
+
 #[test]
 fn outputs_are_released_to_their_recipients(rt: HostRuntime) -> Result<(), Fail> {
-    let head: &[u8] = RELEASED;
-    let cases: [(&[u8], Result<(), TrustFault>); 10] = [
-        (b"output r to 1", Ok(())),
-        (b"output r to 1 2 3", unreleased(4, 0, 2, 0)),
-        (b"output s to 2 3", Ok(())),
-        (b"output s to 1", unreleased(4, 1, 1, 1)),
-        (b"output u to 1 2 3", Ok(())),
-        (b"c = concat u s r\noutput c to 3", unreleased(5, 3, 3, 0)),
-        (b"c = concat s r\noutput c to 1 3", unreleased(5, 3, 1, 1)),
-        (
-            b"j = join u s on x\ng = group j by x (n = count)\noutput g to 1",
-            unreleased(6, 4, 1, 1),
-        ),
-        (
-            b"f = filter s where x > 1\nt = select f (y = 1)\noutput t to 1",
-            unreleased(6, 4, 1, 1),
-        ),
-        (
-            b"d = distinct r\noutput u to 1\noutput d to 1 3",
-            unreleased(6, 3, 3, 0),
-        ),
-    ];
-    for (more, want) in cases {
-        let found = check(rt.alloc(), head, more)?;
-        assert_eq!(rt; found, want, "behind the relations: {more:?}");
-    }
-    assert_eq!(rt; check(rt.alloc(), CREDIT, b"")?, Ok(()));
+    assert_eq!(rt; first_other_fault(rt.alloc(), RELEASED, OUTPUTS)?, None);
+    assert!(rt; check(rt.alloc(), CREDIT, b"", &[])?);
     Ok(())
 }
 
+const RELEASED_TO_2: &[u8] = b"relation r of 2 rows 2 (x num) release 2\n";
+
+const FIRST: &[(&[u8], &[u32])] = &[
+    (b"output r to 1\nd = distinct r clear at 1", &[2, 0, 1, 0]),
+    (
+        b"d = distinct r clear at 1\noutput r to 1",
+        &[2, 1, 0, 1, 0],
+    ),
+    (
+        b"d = distinct r clear at 2\ne = distinct r clear at 3\noutput d to 1",
+        &[3, 2, 0, 3, 0],
+    ),
+];
+
 #[test]
 fn first_statement_counts(rt: HostRuntime) -> Result<(), Fail> {
-    let head: &[u8] = b"relation r of 2 rows 2 (x num) release 2\n";
-    let cases: [(&[u8], Result<(), TrustFault>); 3] = [
-        (
-            b"output r to 1\nd = distinct r clear at 1",
-            unreleased(2, 0, 1, 0),
-        ),
-        (
-            b"d = distinct r clear at 1\noutput r to 1",
-            untrusted(2, 1, 0, 1, 0),
-        ),
-        (
-            b"d = distinct r clear at 2\ne = distinct r clear at 3\noutput d to 1",
-            untrusted(3, 2, 0, 3, 0),
-        ),
-    ];
-    for (more, want) in cases {
-        let found = check(rt.alloc(), head, more)?;
-        assert_eq!(rt; found, want, "behind the relation: {more:?}");
-    }
+    assert_eq!(rt; first_other_fault(rt.alloc(), RELEASED_TO_2, FIRST)?, None);
     Ok(())
 }
