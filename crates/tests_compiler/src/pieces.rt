@@ -26,7 +26,8 @@ pub fn push_equal<T: Task>(list: &mut StepList<T>, left: u32, right: u32) -> Res
     let mut wires = Emit::new(list);
     let new = eq(&mut wires, Wire(left), Wire(right))?;
     environments_are_open_values::<T>();
-    // Its contract says that the list is well-formed.
+    // Their contracts say that the list is well-formed, and its registers short.
     let _ = list.steps();
+    let _ = list.registers();
     Ok(new.0)
 }

@@ -21,4 +21,4 @@ returns-clause-value g c =
     let ended = c.list-1.given.1 (sym c.new-wires.ensures.borrows ∙ c.in_ok-new.ensures.grows.now.0) in
     let carried = c.environments_are_open_values.ensures.carried in
     carried c.list-1.given.0 c.in_ok-new.new (length_of (layout_of c.new-wires.result.list.now) c.args.left) (λ v. lanewise equal_word (v c.args.left) (v c.args.right))
-    c.steps.ensures.well_formed (rw ended c.in_ok-new.ensures.ok)
+    (record { well_formed = c.steps.ensures.well_formed; short = c.registers.ensures.short }) (rw ended c.in_ok-new.ensures.ok)
