@@ -5,3 +5,4 @@ pub mod Lines
 pub mod Lexemes
 pub mod Longest
 pub mod Print
+pub mod Real

@@ -13,7 +13,7 @@ mod sign;
 mod token;
 
 pub use keyword::{KEYWORDS, Keyword};
-pub use laws::{reads_back, reads_longest};
+pub use laws::{reads_back, reads_longest, tokens_are_real};
 pub use lines::split_line;
 pub use print::print_tokens;
 pub use scan::scan_line;
