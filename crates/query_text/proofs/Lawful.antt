@@ -7,13 +7,13 @@ use Rattle.query_tokens.specs.Token.{Token, keyword, sign, IsToken, IsKnown, is_
 use Rattle.query_tokens.specs.Words.{keyword_number, sign_number}
 use Rattle.query_tokens.specs.declared.keyword.Keyword.{Keyword}
 use Rattle.query_tokens.specs.declared.sign.Sign.{Sign}
-use Rattle.query_tokens.proofs.Tags.{is_keyword_only, is_sign_only}
 use Rattle.query_text.specs.Reading.{starts, one, after, nothing, mapped, pair, either, maybe, several, value_of, ended_by}
 use Rattle.query_text.specs.Forms.{Reader, list_of, behind, if_behind}
 use Rattle.query_text.specs.Spelling.{separated, optional, if_any}
 use Rattle.query_text.specs.Grammar.{IsFilled}
 use Rattle.query_text.proofs.ReaderLaw.{first_or, Refuses, Reads, freely, single, Stands, one_reads, nothing_reads, Changes, mapped_reads}
 use Rattle.query_text.proofs.Joined.{pair_reads, IsFixed, after_reads, spelled_by, fits_by, follows_by, either_reads}
+use Rattle.query_text.proofs.TokenTests.{keyword_alone, sign_alone}
 use Rattle.query_text.proofs.Repeated.{reads_as, maybe_follows, maybe_reads, several_follows, several_reads}
 
 -- a reader's law, with what can follow what it reads
@@ -30,10 +30,10 @@ some_any None = tt
 some_any (Some a) = tt
 
 pub keyword_fixed : (k : Keyword) → IsFixed IsToken IsKnown (is_keyword k) (keyword k)
-keyword_fixed k = record { only = is_keyword_only k; passes = eq-eqb (keyword_number k) (keyword_number k) refl; real = tt; known = tt }
+keyword_fixed k = record { only = keyword_alone k; passes = eq-eqb (keyword_number k) (keyword_number k) refl; real = tt; known = tt }
 
 pub sign_fixed : (s : Sign) → IsFixed IsToken IsKnown (is_sign s) (sign s)
-sign_fixed s = record { only = is_sign_only s; passes = eq-eqb (sign_number s) (sign_number s) refl; real = tt; known = tt }
+sign_fixed s = record { only = sign_alone s; passes = eq-eqb (sign_number s) (sign_number s) refl; real = tt; known = tt }
 
 abbrev pub one_law : {A : Type 0} (value : Token → Option A) (token : A → Token) (fits : A → Type 0) → Stands IsToken IsKnown value token fits → Law (one value) (single token) fits
 one_law value token fits s = record { follows = freely; reads = one_reads IsToken IsKnown value token fits s }

@@ -1,6 +1,7 @@
 pub mod ReaderLaw
 pub mod Joined
 pub mod Repeated
+pub mod TokenTests
 pub mod Lawful
 pub mod PartyLaws
 pub mod TokenLaws

@@ -17,7 +17,7 @@ use Rattle.query_text.specs.declared.parts.AggregateText.{AggregateText}
 use Rattle.query_text.specs.declared.parts.AggregateText.TheVariants as aggregates
 use Rattle.query_text.specs.Parties.{IsParty, AreParties}
 use Rattle.query_text.specs.Reading.{starts}
-use Rattle.query_text.specs.Forms.{Reader, is_operator, parties_behind, column_of, column_at, test_of, test_at, computed, assigned, item_of, value_at, assigned_at, item_at, Function, function_at, aggregate_by, aggregate_of, aggregate_at, with_commas, in_parens, names_at, at_most_at, parts_at_most_at, clear_at_at, place_of, place_at, keys_at}
+use Rattle.query_text.specs.Forms.{Reader, is_operator, parties_behind, column_of, column_at, test_of, test_at, computed, assigned, item_of, value_at, assigned_at, item_at, Function, function_at, aggregate_by, aggregate_of, aggregate_at, with_commas, in_parens, names_at, at_most_at, parts_at_most_at, clear_at_at, via_and_clear_at, place_at, keys_at}
 use Rattle.query_text.specs.Spelling.{optional, parties_after, operator, operand, column, test, item, aggregate, listed, names, keys, at_most, parts_at_most, clear_at, via, separated}
 use Rattle.query_text.specs.Grammar.{IsFilled, IsNotBoth, IsMaybeParty}
 use Rattle.query_text.proofs.ReaderLaw.{Refuses, Changes}
@@ -224,12 +224,12 @@ abbrev pub place_spelled : ℕ ⊎ Option ℕ → List Token
 place_spelled p = spelled_by via (optional clear_at) p
 
 place_there : (x : ℕ ⊎ Option ℕ) → fits_by IsParty IsMaybeParty x
-    → (place_parts (place_of x).0 (place_of x).1 ≡ x) × IsMaybeParty (place_of x).0 × IsMaybeParty (place_of x).1 × IsNotBoth (place_of x).0 (place_of x).1
+    → (place_parts (via_and_clear_at x).0 (via_and_clear_at x).1 ≡ x) × IsMaybeParty (via_and_clear_at x).0 × IsMaybeParty (via_and_clear_at x).1 × IsNotBoth (via_and_clear_at x).0 (via_and_clear_at x).1
 unfolding place_parts
 place_there (inl p) fit = (refl, fit, tt, tt)
 place_there (inr o) fit = (refl, tt, fit, tt)
 
-place_here : (v c : Option ℕ) → IsMaybeParty v × IsMaybeParty c × IsNotBoth v c → (place_of (place_parts v c) ≡ (v, c)) × fits_by IsParty IsMaybeParty (place_parts v c)
+place_here : (v c : Option ℕ) → IsMaybeParty v × IsMaybeParty c × IsNotBoth v c → (via_and_clear_at (place_parts v c) ≡ (v, c)) × fits_by IsParty IsMaybeParty (place_parts v c)
 unfolding place_parts
 place_here None c fit = (refl, fit.1)
 place_here (Some p) None fit = (refl, fit.0)
@@ -238,7 +238,7 @@ place_here (Some p) (Some q) fit = absurd fit.2
 abbrev pub place_fits : Option ℕ × Option ℕ → Type 0
 place_fits p = IsMaybeParty p.0 × IsMaybeParty p.1 × IsNotBoth p.0 p.1
 
-pub place_changes : Changes place_of (λ p. place_parts p.0 p.1) (fits_by IsParty IsMaybeParty) place_fits
+pub place_changes : Changes via_and_clear_at (λ p. place_parts p.0 p.1) (fits_by IsParty IsMaybeParty) place_fits
 place_changes = record { there = λ x fit. let h = place_there x fit in (h.0, (h.1, h.2, h.3)); here = λ p fit. place_here p.0 p.1 fit }
 
 place_same : (v c : Option ℕ) → IsNotBoth v c → place_spelled (place_parts v c) ≡ optional via v ++ optional clear_at c
@@ -251,7 +251,7 @@ pub place_spells : (p : Option ℕ × Option ℕ) → place_fits p → place_spe
 place_spells p fit = place_same p.0 p.1 fit.2
 
 abbrev pub place_law : Law place_at (λ p. optional via p.0 ++ optional clear_at p.1) place_fits
-place_law = spelled_law (λ p. optional via p.0 ++ optional clear_at p.1) (mapped_law place_of (λ p. place_parts p.0 p.1) place_fits (either_law word.Via party_law clear_at_law) place_changes) place_spells
+place_law = spelled_law (λ p. optional via p.0 ++ optional clear_at p.1) (mapped_law via_and_clear_at (λ p. place_parts p.0 p.1) place_fits (either_law word.Via party_law clear_at_law) place_changes) place_spells
 
 place_ends : (v c : Option ℕ) → place_law.follows (v, c) None
 unfolding place_parts

@@ -3,7 +3,7 @@ use Rattle.std.proofs.Common.{◌≡◌, ℕ, suc, ◌+◌, ◌<◌, ◌≤◌, 
 use Rattle.std.proofs.lemmas.Bool.{leb-true, leb-false, le-leb, lt-leb}
 use Rattle.query_tokens.specs.Token.{Token}
 use Rattle.query_tokens.specs.Scan.{tokens_of}
-use Rattle.query_tokens.proofs.RealTokens.{tokens_of-real}
+use Rattle.query_tokens.specs.Real.{TokensAreReal}
 use Rattle.query_text.specs.declared.statement.Body.{Body}
 use Rattle.query_text.specs.declared.statement.Statement.{Statement}
 use Rattle.query_text.specs.Forms.{statement_at}
@@ -26,14 +26,14 @@ LineGives : ℕ → ℕ → List ℕ → Option Statement → Type 0
 LineGives n count line None = tokens_of line ≡ []
 LineGives n count line (Some s) = (count < 64) × (body : Body) × (s ≡ on_line n body) × IsStatement (tokens_of line) body
 
-line_found : (n count : ℕ) (line : List ℕ) (o : Option Statement) → line_on n count line ≡ Ok o → LineGives n count line o
+line_found : TokensAreReal → (n count : ℕ) (line : List ℕ) (o : Option Statement) → line_on n count line ≡ Ok o → LineGives n count line o
 unfolding LineGives
-line_found n count line o e = go (tokens_of line) refl e
+line_found real n count line o e = go (tokens_of line) refl e
   where
     body : (t : Token) (ts : List Token) → tokens_of line ≡ t ∷ ts → count < 64 → (r : Result Body (List Token)) → statement_at (t ∷ ts) ≡ r → body_on n line r ≡ Ok o → LineGives n count line o
     body t ts k lt (Err rest) h e = absurd (ok_no_err _ _ (sym e))
     body t ts k lt (Ok b) h e =
-        let found : IsStatement (tokens_of line) b = statement_found (tokens_of line) b (tokens_of-real line) (ap statement_at k ∙ h) in
+        let found : IsStatement (tokens_of line) b = statement_found (tokens_of line) b (real line) (ap statement_at k ∙ h) in
         let is : Some (on_line n b) ≡ o = ok_is _ _ e in
         subst (λ (p : Option Statement). LineGives n count line p) is (lt, b, refl, found)
 
@@ -55,8 +55,8 @@ line_some n count line body lt filled s = go (tokens_of line) filled (statement_
     go [] f e = absurd (f refl)
     go (t ∷ ts) f e = let h : leb 64 count ≡ false = lt-leb 64 count lt in rw (h, e) refl
 
-line_fault : (n count : ℕ) (line : List ℕ) (spot : Spot) → count ≤ 64 → line_on n count line ≡ Err spot → (spot.0 ≡ n) × IsFaultOfLine count line spot.1
-line_fault n count line spot le e = go (tokens_of line) refl e
+line_fault : TokensAreReal → (n count : ℕ) (line : List ℕ) (spot : Spot) → count ≤ 64 → line_on n count line ≡ Err spot → (spot.0 ≡ n) × IsFaultOfLine count line spot.1
+line_fault real n count line spot le e = go (tokens_of line) refl e
   where
     Faulty : Spot → Type 0
     Faulty s = (s.0 ≡ n) × IsFaultOfLine count line s.1
@@ -64,7 +64,7 @@ line_fault n count line spot le e = go (tokens_of line) refl e
     body : (t : Token) (ts : List Token) → tokens_of line ≡ t ∷ ts → count < 64 → (r : Result Body (List Token)) → statement_at (t ∷ ts) ≡ r → body_on n line r ≡ Err spot → Faulty spot
     body t ts k lt (Ok b) h e = absurd (ok_no_err _ _ e)
     body t ts k lt (Err rest) h e =
-        let fault : IsFault (tokens_of line) rest = statement_fault (tokens_of line) rest (tokens_of-real line) (ap statement_at k ∙ h) in
+        let fault : IsFault (tokens_of line) rest = statement_fault (tokens_of line) rest (real line) (ap statement_at k ∙ h) in
         let is : (n, column_of line rest) ≡ spot = err_is _ _ e in
         subst Faulty is (refl, ((λ none. let f = sym none ∙ k in cc), inr (lt, rest, fault, refl)))
 
@@ -79,8 +79,8 @@ line_fault n count line spot le e = go (tokens_of line) refl e
             let is : (n, column_of line (t ∷ ts)) ≡ spot = err_is _ _ e in
             subst Faulty is (refl, ((λ none. let f = sym none ∙ k in cc), inl (omega arith, ap (column_of line) (sym k))))
 
-line_stops : (n count : ℕ) (line : List ℕ) (column : ℕ) → IsFaultOfLine count line column → line_on n count line ≡ Err (n, column)
-line_stops n count line column f = go (tokens_of line) refl f.0 f.1
+line_stops : TokensAreReal → (n count : ℕ) (line : List ℕ) (column : ℕ) → IsFaultOfLine count line column → line_on n count line ≡ Err (n, column)
+line_stops real n count line column f = go (tokens_of line) refl f.0 f.1
   where
     go : (ts : List Token) → tokens_of line ≡ ts → (tokens_of line ≡ [] → ⊥)
         → ((count ≡ 64) × (column ≡ column_of line (tokens_of line))) ⊎ ((count < 64) × (rest : List Token) × IsFault (tokens_of line) rest × (column ≡ column_of line rest))
@@ -92,7 +92,7 @@ line_stops n count line column f = go (tokens_of line) refl f.0 f.1
         rw (full, same) refl
     go (t ∷ ts) k filled (inr h) =
         let room : leb 64 count ≡ false = lt-leb 64 count h.0 in
-        let stop : statement_at (t ∷ ts) ≡ Err h.1 = ap statement_at (sym k) ∙ fault_statement (tokens_of line) h.1 (tokens_of-real line) h.2 in
+        let stop : statement_at (t ∷ ts) ≡ Err h.1 = ap statement_at (sym k) ∙ fault_statement (tokens_of line) h.1 (real line) h.2 in
         rw (room, stop, h.3) refl
 
 -- ---- all lines
@@ -104,14 +104,14 @@ spelled_filled _ e = cc
 filled : (line : List ℕ) (b : Body) → IsStatement (tokens_of line) b → tokens_of line ≡ [] → ⊥
 filled line b s e = spelled_filled b (sym s.spelled ∙ e)
 
-pub lines_found : (lines : List (List ℕ)) (n count : ℕ) (statements : List Statement) → count ≤ 64 → read_lines n count lines ≡ Ok statements → AreLines n lines statements × (count + length statements ≤ 64)
+pub lines_found : TokensAreReal → (lines : List (List ℕ)) (n count : ℕ) (statements : List Statement) → count ≤ 64 → read_lines n count lines ≡ Ok statements → AreLines n lines statements × (count + length statements ≤ 64)
 unfolding read_lines LineGives
-lines_found [] n count statements le e =
+lines_found real [] n count statements le e =
     let is : [] ≡ statements = ok_is _ _ e in
     (sym is, subst (λ (l : List Statement). count + length l ≤ 64) is (omega arith))
-lines_found (line ∷ lines) n count statements le e =
+lines_found real (line ∷ lines) n count statements le e =
     let o = bind_ok (line_on n count line) (and_behind (λ c. read_lines (n + 1) c lines) count) statements e in
-    go o.0 (line_found n count line o.0 o.1) o.2 (λ c l h. lines_found lines (n + 1) c l h)
+    go o.0 (line_found real n count line o.0 o.1) o.2 (λ c l h. lines_found real lines (n + 1) c l h)
   where
     go : (o : Option Statement) → LineGives n count line o → and_behind (λ c. read_lines (n + 1) c lines) count o ≡ Ok statements
         → ((c : ℕ) (l : List Statement) → c ≤ 64 → read_lines (n + 1) c lines ≡ Ok l → AreLines (n + 1) lines l × (c + length l ≤ 64))
@@ -178,13 +178,13 @@ first_later n count line lines l c body s f =
       fault = subst (λ (k : ℕ). IsFaultOfLine k f.faulty c) same f.fault;
     }
 
-pub lines_fault : (lines : List (List ℕ)) (n count : ℕ) (spot : Spot) → count ≤ 64 → read_lines n count lines ≡ Err spot → IsFirstFault n count lines spot.0 spot.1
+pub lines_fault : TokensAreReal → (lines : List (List ℕ)) (n count : ℕ) (spot : Spot) → count ≤ 64 → read_lines n count lines ≡ Err spot → IsFirstFault n count lines spot.0 spot.1
 unfolding read_lines LineGives
-lines_fault [] n count spot le e = absurd (ok_no_err _ _ e)
-lines_fault (line ∷ lines) n count spot le e =
+lines_fault real [] n count spot le e = absurd (ok_no_err _ _ e)
+lines_fault real (line ∷ lines) n count spot le e =
     elim (bind_err (line_on n count line) (and_behind (λ c. read_lines (n + 1) c lines) count) spot e) [
-      | inl d ↦ first_here n count line lines spot le (line_fault n count line spot le d)
-      | inr o ↦ go o.0 (line_found n count line o.0 o.1) o.2 (λ c h. lines_fault lines (n + 1) c spot h)
+      | inl d ↦ first_here n count line lines spot le (line_fault real n count line spot le d)
+      | inr o ↦ go o.0 (line_found real n count line o.0 o.1) o.2 (λ c h. lines_fault real lines (n + 1) c spot h)
     ]
   where
     go : (o : Option Statement) → LineGives n count line o → and_behind (λ c. read_lines (n + 1) c lines) count o ≡ Err spot
@@ -196,28 +196,28 @@ lines_fault (line ∷ lines) n count spot le e =
           | inl d ↦ first_later n count line lines spot.0 spot.1 g.1 g.3 (ih (count + 1) (omega (arith, g.0)) d)
         ]
 
-fault_read : (before : List (List ℕ)) (n count : ℕ) (faulty : List ℕ) (behind : List (List ℕ)) (statements : List Statement) (column : ℕ) → AreLines n before statements → count + length statements ≤ 64
+fault_read : TokensAreReal → (before : List (List ℕ)) (n count : ℕ) (faulty : List ℕ) (behind : List (List ℕ)) (statements : List Statement) (column : ℕ) → AreLines n before statements → count + length statements ≤ 64
     → IsFaultOfLine (count + length statements) faulty column → read_lines n count (before ++ faulty ∷ behind) ≡ Err (n + length before, column)
 unfolding read_lines
-fault_read [] n count faulty behind statements column are few f =
+fault_read real [] n count faulty behind statements column are few f =
     let same : count + length statements ≡ count = omega (arith, ap (λ (l : List Statement). length l) are) in
-    let here = line_stops n count faulty column (subst (λ (k : ℕ). IsFaultOfLine k faulty column) same f) in
+    let here = line_stops real n count faulty column (subst (λ (k : ℕ). IsFaultOfLine k faulty column) same f) in
     let number : n ≡ n + 0 = omega arith in
     rw here (ap (λ (k : ℕ). Err (k, column)) number)
-fault_read (line ∷ before) n count faulty behind statements column (inl h) few f =
+fault_read real (line ∷ before) n count faulty behind statements column (inl h) few f =
     let number : n + 1 + length before ≡ n + suc (length before) = omega arith in
-    rw (line_none n count line h.0) (fault_read before (n + 1) count faulty behind statements column h.1 few f ∙ ap (λ (k : ℕ). Err (k, column)) number)
-fault_read (line ∷ before) n count faulty behind statements column (inr h) few f =
+    rw (line_none n count line h.0) (fault_read real before (n + 1) count faulty behind statements column h.1 few f ∙ ap (λ (k : ℕ). Err (k, column)) number)
+fault_read real (line ∷ before) n count faulty behind statements column (inr h) few f =
     let size : length statements ≡ suc (length h.1) = ap (λ (l : List Statement). length l) h.2 in
     let here = line_some n count line h.0 (omega arith) (filled line h.0 h.3) h.3 in
     let same : count + length statements ≡ count + 1 + length h.1 = omega arith in
-    let rest = fault_read before (n + 1) (count + 1) faulty behind h.1 column h.4 (omega arith) (subst (λ (k : ℕ). IsFaultOfLine k faulty column) same f) in
+    let rest = fault_read real before (n + 1) (count + 1) faulty behind h.1 column h.4 (omega arith) (subst (λ (k : ℕ). IsFaultOfLine k faulty column) same f) in
     let number : n + 1 + length before ≡ n + suc (length before) = omega arith in
     rw (here, rest) (ap (λ (k : ℕ). Err (k, column)) number)
 
-pub fault_lines : (lines : List (List ℕ)) (n count line column : ℕ) → IsFirstFault n count lines line column → read_lines n count lines ≡ Err (line, column)
-fault_lines lines n count line column f =
-    ap (read_lines n count) f.cut ∙ fault_read f.before n count f.faulty f.behind f.statements column f.good f.few f.fault ∙ ap (λ (k : ℕ). Err (k, column)) (sym f.number)
+pub fault_lines : TokensAreReal → (lines : List (List ℕ)) (n count line column : ℕ) → IsFirstFault n count lines line column → read_lines n count lines ≡ Err (line, column)
+fault_lines real lines n count line column f =
+    ap (read_lines n count) f.cut ∙ fault_read real f.before n count f.faulty f.behind f.statements column f.good f.few f.fault ∙ ap (λ (k : ℕ). Err (k, column)) (sym f.number)
 
 -- ---- statements that were read fit
 
@@ -267,7 +267,7 @@ lines_are lines statements are few = record {
   rise = query_rises lines statements are;
 }
 
-pub read_fit : (lines : List (List ℕ)) (statements : List Statement) → read_lines 1 0 lines ≡ Ok statements → AreStatements statements
-read_fit lines statements e =
-    let f = lines_found lines 1 0 statements (omega arith) e in
+pub read_fit : TokensAreReal → (lines : List (List ℕ)) (statements : List Statement) → read_lines 1 0 lines ≡ Ok statements → AreStatements statements
+read_fit real lines statements e =
+    let f = lines_found real lines 1 0 statements (omega arith) e in
     lines_are lines statements f.0 (omega (arith, f.1))

@@ -3,7 +3,6 @@ use Rattle.std.proofs.Common.{◌≡◌, ℕ, List, [], ◌∷◌, Some, refl, a
 use Rattle.query_tokens.specs.Token.{Token, name, number, quoted, keyword, sign, IsToken, IsKnown, name_of, number_of}
 use Rattle.query_tokens.specs.declared.keyword.Keyword.TheVariants as word
 use Rattle.query_tokens.specs.declared.sign.Sign.TheVariants as sign_of
-use Rattle.query_tokens.proofs.Tags.{IsName-letter}
 use Rattle.query_text.specs.declared.operand.KindText.{KindText}
 use Rattle.query_text.specs.declared.operand.KindText.TheVariants as kinds
 use Rattle.query_text.specs.declared.operand.Cmp.{Cmp}
@@ -15,6 +14,7 @@ use Rattle.query_text.specs.declared.operand.OperandText.TheVariants as operands
 use Rattle.query_text.specs.Forms.{kind_of, comparison_of, operator_of, operand_of, name_at, number_at, kind_at, comparison_at, operator_at, operand_at}
 use Rattle.query_text.specs.Spelling.{kind_token, comparison, operator, operand}
 use Rattle.query_text.proofs.ReaderLaw.{single, Stands}
+use Rattle.query_text.proofs.TokenTests.{letter_name}
 use Rattle.query_text.proofs.Lawful.{Law, any, one_law}
 
 -- a token is that of the value that it stands for
@@ -100,7 +100,7 @@ operand_known (operands.Name n) = tt
 operand_known _ = tt
 
 pub name_stands : Stands IsToken IsKnown name_of name any
-name_stands = record { reads = name_reads; writes = λ n fit. refl; example = 97 ∷ []; fit = tt; real = IsName-letter; known = λ n fit. tt }
+name_stands = record { reads = name_reads; writes = λ n fit. refl; example = 97 ∷ []; fit = tt; real = letter_name; known = λ n fit. tt }
 
 pub number_stands : Stands IsToken IsKnown number_of number any
 number_stands = record { reads = number_reads; writes = λ n fit. refl; example = 0; fit = tt; real = lit< tt; known = λ n fit. tt }

@@ -218,13 +218,13 @@ abbrev pub clear_at_at : Reader (Option ℕ)
 clear_at_at = if_behind word.Clear (behind word.At party_at)
 
 -- the party behind via, and the one behind clear at
-abbrev pub place_of : ℕ ⊎ Option ℕ → Option ℕ × Option ℕ
-place_of (inl p) = (Some p, None)
-place_of (inr o) = (None, o)
+abbrev pub via_and_clear_at : ℕ ⊎ Option ℕ → Option ℕ × Option ℕ
+via_and_clear_at (inl p) = (Some p, None)
+via_and_clear_at (inr o) = (None, o)
 
 -- [via P | clear at P]
 abbrev pub place_at : Reader (Option ℕ × Option ℕ)
-place_at = mapped place_of (either (is_keyword word.Via) (behind word.Via party_at) clear_at_at)
+place_at = mapped via_and_clear_at (either (is_keyword word.Via) (behind word.Via party_at) clear_at_at)
 
 -- [by C {, C}]
 abbrev pub keys_at : Reader (List (List ℕ))

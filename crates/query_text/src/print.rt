@@ -5,6 +5,7 @@ ghost use Rattle.query_text.specs.Printing.{printed_line, printed_query, on_line
 use crate::query::Query;
 use crate::statement::Body;
 use crate::token_list::{Spelled, TokenList};
+use query_tokens::reads_back;
 use std::alloc::{AllocError, Global};
 
 // Writes a statement's line at the end of the text.
@@ -28,6 +29,7 @@ pub fn print_query(alloc: Global, query: &Query) -> Result<Vec<u8>, AllocError>
     ensures again { IfOk result (λ text.
         length text.items ≤ 65536 → IsQuery text.items (on_lines_from 1 query.now)) }
 {
+    reads_back();
     let mut text = Vec::new(alloc);
     for statement in query.statements.as_slice() {
         print_statement(alloc, &statement.body, &mut text)?;

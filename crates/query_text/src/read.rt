@@ -11,7 +11,7 @@ use crate::query::{Query, ReadFault};
 use crate::sequence::Sequence;
 use crate::statement::Statement;
 use crate::stop::Stop;
-use query_tokens::{Placed, scan_line, split_line};
+use query_tokens::{Placed, scan_line, split_line, tokens_are_real};
 use std::alloc::{AllocError, Global};
 
 /// The most bytes of a text.
@@ -102,6 +102,7 @@ fn read(alloc: Global, text: &[u8]) -> Result<Query, ReadFault>
     if text.len() > TEXT_LIMIT {
         return Err(ReadFault::Text { line: 0, column: 0 });
     }
+    tokens_are_real();
     let statements = read_lines(alloc, text)?;
     Ok(Query { statements })
 }
@@ -123,5 +124,6 @@ pub fn read_query(alloc: Global, bytes: &[u8]) -> Result<Query, ReadFault>
     // Where a text stops being a query, that place is the answer, unless memory runs out.
     ensures place { (line column : ℕ) → IsFaultAt bytes.now line column → GivesPlace result line column }
 {
+    tokens_are_real();
     read(alloc, bytes)
 }

@@ -8,4 +8,4 @@ use Rattle.query_text.proofs.print.print_query.Goals as goal
 pub returns-clause-again : goal.returns-clause-again
 returns-clause-again c = λ size.
     let written : c.loop-statement.text.items ≡ printed_query c.args.query.now = grind (arith, common_steps) in
-    printed_again c.loop-statement.text.items c.args.query.now (subst AreStatements c.query.view_is c.query.invariant) written size
+    printed_again c.reads_back.ensures c.loop-statement.text.items c.args.query.now (subst AreStatements c.query.view_is c.query.invariant) written size
