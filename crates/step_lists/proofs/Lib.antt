@@ -1,6 +1,7 @@
 pub mod Rooms
 pub mod Moves
 pub mod LawLemmas
+pub mod Ands
 pub mod Joining
 pub mod Facts
 pub mod Listing

@@ -1,5 +1,5 @@
 -- The laws of step lists.
-use Rattle.std.specs.Prelude.{◌≡◌, ℕ, ◌+◌, ◌<◌, Bool, true, false, List, [], ◌∷◌, ◌++◌, length, slice_index}
+use Rattle.std.specs.Prelude.{◌≡◌, All, ℕ, ◌+◌, ◌^◌, ◌<◌, Bool, true, false, List, [], ◌∷◌, ◌++◌, length, slice_index}
 use Rattle.lanes.specs.declared.party.Party.{Party}
 use Rattle.lanes.specs.Three.{at}
 use Rattle.tapes.specs.Order.{IsOrder, applied}
@@ -86,3 +86,7 @@ pub record FlagsDecide {T : Type 0} (answer : T → List (List ℕ) → List (Li
 -- AND words add up
 abbrev pub AndsAddUp : {T : Type 0} → (T → List (List ℕ) → List (List ℕ)) → Type 0
 AndsAddUp {T} answer = (a : Steps T) (more : List (Step T)) → ands_in (behind a more) ≡ ands_in a + ands_behind (layout_of a) more
+
+-- and there are fewer than 2 ^ 64 of them, where each register is shorter than 2 ^ 32 words as `StepList::registers` tells
+abbrev pub AndsAreFew : {T : Type 0} → (T → List Shape → List Shape → Bool) → Type 0
+AndsAreFew {T} accepts = (list : Steps T) → IsWellFormed accepts list → All (λ n. n < 2 ^ 32) (layout_of list).registers → ands_in list < 2 ^ 64

@@ -2,7 +2,7 @@
 //! task.
 #![tactic(auto)]
 
-ghost use Rattle.step_lists.specs.Laws.{PrefixKeepsLayout, PrefixIsPossible, PrefixKeepsRegisters, PrefixKeepsSlots, SeenAppends, StepValues, RevealIsOneOrder, ValuesHaveShapes, FlagsDecide, AndsAddUp};
+ghost use Rattle.step_lists.specs.Laws.{PrefixKeepsLayout, PrefixIsPossible, PrefixKeepsRegisters, PrefixKeepsSlots, SeenAppends, StepValues, RevealIsOneOrder, ValuesHaveShapes, FlagsDecide, AndsAddUp, AndsAreFew};
 
 use crate::task::Task;
 use lanes::{item_laws, lane_laws};
@@ -56,4 +56,10 @@ pub fn flags_decide<T: Task>()
 /// The AND words of a list and of the steps behind it add up, and And alone has any.
 pub fn ands_add_up<T: Task>()
     ensures { AndsAddUp T.answer }
+{}
+
+/// A list has fewer than 2^64 AND words: each And makes a register, of which there are fewer than 2^32, each of fewer
+/// than 2^32 words.
+pub fn ands_are_few<T: Task>()
+    ensures { AndsAreFew T.accepts }
 {}
