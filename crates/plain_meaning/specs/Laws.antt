@@ -6,23 +6,16 @@ use Rattle.query_graph.specs.Content as graph_content
 use Rattle.query_graph.specs.IsGraph.{IsGraph}
 use Rattle.query_graph.specs.declared.node.Node.{Node}
 use Rattle.query_graph.specs.declared.operator.Operator.{Operator}
-use Rattle.query_graph.specs.declared.operator.Operator.TheVariants.{Relation, Filter, Select, Concat, Join, Group, Distinct}
 use Rattle.plain_operators.specs.Sizes.{AllWide, IsOfWords}
 use Rattle.tables.specs.Content as table
 use Rattle.plain_meaning.specs.Fits.{AreFiles, FitsEarlier, FitsRelation, IsWorldOf, relations, widths_before}
-use Rattle.query_graph.specs.Observers.{is_relation}
+use Rattle.query_graph.specs.Observers.{is_relation, parts_at_most_of}
 use Rattle.plain_meaning.specs.Meaning.{meanings, node_rows, rows_of}
 use Rattle.plain_meaning.specs.Plain.{bound_of, is_over, rows_of_tables}
 
 -- the most rows of a group whose rows come in three parts, each under a bound
 abbrev pub parts_bound_of : Operator → Option ℕ
-parts_bound_of (Relation r) = None
-parts_bound_of (Filter f) = None
-parts_bound_of (Select s) = None
-parts_bound_of (Concat c) = None
-parts_bound_of (Join j) = None
-parts_bound_of (Group g) = option_map (λ k. 3 * k) g.parts_at_most
-parts_bound_of (Distinct d) = None
+parts_bound_of shape = option_map (λ k. 3 * k) (parts_at_most_of shape)
 
 -- rows of a node that break none of its bounds
 pub record KeepBounds (shape : Operator) (rows : List (List ℕ)) : Type 0 where

@@ -4,20 +4,14 @@ use Rattle.std.specs.Option.{option_map}
 use Rattle.words.specs.declared.column.Column.{Column}
 use Rattle.query_graph.specs.declared.node.Node.{Node}
 use Rattle.query_graph.specs.declared.operator.Operator.{Operator}
-use Rattle.query_graph.specs.declared.operator.Operator.TheVariants.{Relation, Filter, Select, Concat, Join, Group, Distinct}
+use Rattle.query_graph.specs.Observers.{at_most_of}
 use Rattle.tables.specs.Content as table
 use Rattle.plain_operators.specs.Limits.{first_of}
 use Rattle.plain_meaning.specs.Meaning.{meanings, node_rows, rows_of}
 
 -- the bound `at most` of a node
 abbrev pub bound_of : Operator → Option ℕ
-bound_of (Relation r) = None
-bound_of (Filter f) = f.at_most
-bound_of (Select s) = None
-bound_of (Concat c) = None
-bound_of (Join j) = j.at_most
-bound_of (Group g) = g.at_most
-bound_of (Distinct d) = d.at_most
+bound_of shape = at_most_of shape
 
 -- whether there are more rows than a bound lets through
 abbrev pub is_over : Option ℕ → List (List ℕ) → Bool

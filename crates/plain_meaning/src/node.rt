@@ -53,26 +53,11 @@ fn copied(
     table_of_lent(alloc, columns, &rows)
 }
 
-// The bound `at most` of a node.
-fn bound_of(operator: &Operator) -> Option<u32>
-    ensures { result ≡ bound_of operator.now }
-{
-    match operator {
-        Operator::Relation(_) => None,
-        Operator::Filter(filter) => filter.at_most,
-        Operator::Select(_) => None,
-        Operator::Concat(_) => None,
-        Operator::Join(join) => join.at_most,
-        Operator::Group(group) => group.at_most,
-        Operator::Distinct(distinct) => distinct.at_most,
-    }
-}
-
 // Whether a table has more rows than the bound of its node.
 pub(crate) fn is_over(operator: &Operator, table: &Table) -> bool
     ensures { result ≡ is_over (bound_of operator.now) table.now.rows }
 {
-    match bound_of(operator) {
+    match operator.at_most() {
         None => false,
         Some(bound) => (bound as usize) < table.rows(),
     }

@@ -15,7 +15,7 @@ use Rattle.query_graph.specs.IsGraph.{FitsSources}
 use Rattle.query_graph.specs.Observers.{clear_at_of, via_of}
 use Rattle.plain_operators.specs.Operators.{left_keys, right_keys}
 use Rattle.plain_operators.specs.Columns.{is_key}
-use Rattle.trust_sets.specs.Faults.{columns_at, is_key_of_side, is_needed, place_of}
+use Rattle.trust_sets.specs.Faults.{columns_at, is_key_of_side, is_needed, named_by}
 use Rattle.trust_sets.specs.Rules.{Asks, keys_at}
 
 -- ---- keys
@@ -81,7 +81,7 @@ join_asked : (via clear : Option ℕ) (keys : List ℕ) (party column width : �
 join_asked None clear keys party column width among named needed found within = inr (named, within)
 join_asked (Some p) clear keys party column width among named needed found within = inl (named, found needed)
 
-pub asked_of : (shape : Operator) (party place column width : ℕ) → place < 2 → place_of shape ≡ Some party → is_needed shape (place == 1) column ≡ true → column < width → Asked shape party place column width
+pub asked_of : (shape : Operator) (party place column width : ℕ) → place < 2 → named_by shape ≡ Some party → is_needed shape (place == 1) column ≡ true → column < width → Asked shape party place column width
 asked_of (operators.Relation r) party place column width side named needed within = absurd cc
 asked_of (operators.Filter f) party place column width side named needed within = inr (named, within)
 asked_of (operators.Select s) party place column width side named needed within = inr (named, within)
@@ -99,7 +99,7 @@ asked_of (operators.Distinct d) party place column width side named needed withi
 
 -- a statement that names a party, and a column that this party is to know
 pub record Needs (shape : Operator) (party place column width : ℕ) : Type 0 where
-  pub named : place_of shape ≡ Some party
+  pub named : named_by shape ≡ Some party
   pub needed : is_needed shape (place == 1) column ≡ true
   pub within : column < width
 

@@ -20,7 +20,7 @@ use Rattle.trust_sets.specs.declared.fault.TrustFault.{TrustFault}
 use Rattle.trust_sets.specs.declared.fault.TrustFault.TheVariants as faults
 use Rattle.trust_sets.specs.declared.known.Known.{Known}
 use Rattle.trust_sets.specs.Agreement.{IsRelation}
-use Rattle.trust_sets.specs.Faults.{columns_at, fault_at, is_needed, line_of, node_fault, output_fault, place_of, recipient_fault, source_fault, sources_fault, untrusted_column}
+use Rattle.trust_sets.specs.Faults.{columns_at, fault_at, is_needed, line_of, named_by, node_fault, output_fault, recipient_fault, source_fault, sources_fault, untrusted_column}
 use Rattle.trust_sets.specs.Known.{column_set, known_at, known_nodes}
 use Rattle.trust_sets.specs.Laws.{KnowsColumn}
 use Rattle.trust_sets.specs.Release.{release_set, withheld_at, withheld_from, withheld_nodes}
@@ -153,7 +153,7 @@ module _ (graph : Content) (known : List Known) (number : ℕ) (node : Node) (pa
   two_none l r (suc zero) source none is = let same : r ≡ source = cc in subst (λ t. fault_in true t ≡ None) same none.1
   two_none l r (suc (suc place)) source none is = absurd cc
 
-  no_source : (shape : Operator) → sources_fault graph known number node party shape ≡ None → place_of shape ≡ Some party → (place source : ℕ) → slice_get (sources_of shape) place ≡ Some source
+  no_source : (shape : Operator) → sources_fault graph known number node party shape ≡ None → named_by shape ≡ Some party → (place source : ℕ) → slice_get (sources_of shape) place ≡ Some source
       → fault_in (place == 1) source ≡ None
   no_source (operators.Relation r) none named place source is = absurd cc
   no_source (operators.Filter f) none named place source is = one_none f.source place source none is
@@ -214,7 +214,7 @@ module _ (graph : Content) (is_graph : IsGraph graph) (number : ℕ) (node : Nod
   pub breaks_trust : (fault : TrustFault) → node_fault graph (known_nodes graph.nodes) number node ≡ Some fault → KeepsRulesBefore graph node.line → IsFirstBreach graph fault
   breaks_trust fault some before =
       let known = known_nodes graph.nodes in
-      let named = named_party (place_of node.shape) fault some in
+      let named = named_party (named_by node.shape) fault some in
       let party = named.0 in
       let found = some_source graph known number node party node.shape fault named.2 in
       let source = found.source in
@@ -244,7 +244,7 @@ module _ (graph : Content) (is_graph : IsGraph graph) (number : ℕ) (node : Nod
   -- the fault names the statement's line
   pub line_of_node : (fault : TrustFault) → node_fault graph (known_nodes graph.nodes) number node ≡ Some fault → line_of fault ≡ node.line
   line_of_node fault some =
-      let named = named_party (place_of node.shape) fault some in
+      let named = named_party (named_by node.shape) fault some in
       let found = some_source graph (known_nodes graph.nodes) number node named.0 node.shape fault named.2 in
       let column = option_some _ _ fault found.faulty in
       sym (ap line_of column.2)

@@ -8,6 +8,7 @@ use Rattle.query_graph.specs.declared.node.Output.{Output}
 use Rattle.query_graph.specs.declared.operator.Operator.{Operator}
 use Rattle.query_graph.specs.declared.operator.Operator.TheVariants as operators
 use Rattle.query_graph.specs.Content.{Content}
+use Rattle.query_graph.specs.Observers.{clear_at_of, via_of}
 use Rattle.query_graph.specs.Parties.{has}
 use Rattle.plain_operators.specs.Columns.{is_key}
 use Rattle.trust_sets.specs.declared.fault.TrustFault.{TrustFault}
@@ -19,14 +20,8 @@ use Rattle.trust_sets.specs.Release.{withheld_at, withheld_from}
 use Rattle.trust_sets.specs.Trust.{Trust}
 
 -- the party that a statement names by `via` or by `clear at`
-abbrev pub place_of : Operator → Option ℕ
-place_of (operators.Relation r) = None
-place_of (operators.Filter f) = f.clear_at
-place_of (operators.Select s) = s.clear_at
-place_of (operators.Concat c) = None
-place_of (operators.Join j) = option_or j.via j.clear_at
-place_of (operators.Group g) = option_or g.via g.clear_at
-place_of (operators.Distinct d) = d.clear_at
+abbrev pub named_by : Operator → Option ℕ
+named_by shape = option_or (via_of shape) (clear_at_of shape)
 
 -- a key of a join on the right, or on the left
 abbrev pub is_key_of_side : Bool → List (ℕ × ℕ) → ℕ → Bool
@@ -76,7 +71,7 @@ fault_at graph known number node None = None
 fault_at graph known number node (Some party) = sources_fault graph known number node party node.shape
 
 abbrev pub node_fault : Content → List Known → ℕ → Node → Option TrustFault
-node_fault graph known number node = fault_at graph known number node (place_of node.shape)
+node_fault graph known number node = fault_at graph known number node (named_by node.shape)
 
 -- the fault of the first node that has one, from this number on
 abbrev pub nodes_fault : Content → List Known → ℕ → List Node → Option TrustFault

@@ -14,18 +14,10 @@ use query_graph::{Graph, Node, Operator, Output};
 use words::Column;
 
 // The party that a statement names by `via` or by `clear at`.
-fn place_of(shape: &Operator) -> Option<u8>
-    ensures { result ≡ faults.place_of shape.now }
+fn named_by(shape: &Operator) -> Option<u8>
+    ensures { result ≡ faults.named_by shape.now }
 {
-    match shape {
-        Operator::Relation(_) => None,
-        Operator::Filter(f) => f.clear_at,
-        Operator::Select(s) => s.clear_at,
-        Operator::Concat(_) => None,
-        Operator::Join(j) => j.via.or(j.clear_at),
-        Operator::Group(g) => g.via.or(g.clear_at),
-        Operator::Distinct(d) => d.clear_at,
-    }
+    shape.via().or(shape.clear_at())
 }
 
 fn is_left_key(keys: &[(u32, u32)], column: usize) -> bool
@@ -150,7 +142,7 @@ fn nodes_fault(graph: &Graph, trust: &Trust) -> Option<TrustFault>
     ensures { result ≡ faults.nodes_fault graph.now trust.now.known 0 graph.now.nodes }
 {
     for (number, node) in graph.nodes().iter().enumerate() {
-        if let Some(party) = place_of(&node.shape) {
+        if let Some(party) = named_by(&node.shape) {
             let place = Place {
                 graph,
                 trust,
