@@ -1,9 +1,9 @@
 -- The words of a joined row by the numbers of its columns.
-use Rattle.std.proofs.Common.{◌≡◌, ℕ, ◌+◌, ◌-◌, ◌<◌, ◌≤◌, List, ◌++◌, length, get_or, sym, ◌∙◌, ap, arith, length-append}
+use Rattle.std.proofs.Common.{◌≡◌, ℕ, ◌+◌, ◌-◌, ◌<◌, List, ◌++◌, length, get_or, ◌∙◌, ap, arith}
 use Rattle.std.proofs.lemmas.List.{get_or-append_right, get_or-map, get_or_append_left, length-map}
 use Rattle.plain_operators.specs.Columns.{cut, other_columns, others, word_at}
 use Rattle.plain_operators.specs.JoinedColumns.{JoinedColumns}
-use Rattle.plain_operators.specs.Operators.{joined_row, left_keys, right_keys}
+use Rattle.plain_operators.specs.Operators.{left_keys, right_keys}
 
 -- a word of a row cut to some columns
 cut_word : (columns row : List ℕ) (k : ℕ) → k < length columns → word_at k (cut columns row) ≡ word_at (get_or columns k 0) row

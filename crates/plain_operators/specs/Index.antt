@@ -1,9 +1,7 @@
 -- An index of rows: the number of each row among the distinct ones, and the places of each of these.
 use Rattle.std.specs.Prelude.{◌≡◌, ℕ, suc, cond, Option, Some, None, List, [], ◌∷◌, ◌++◌, map, slice_index_or, slice_set}
 use Rattle.std.specs.Option.{option_map}
-use Rattle.std.specs.Ordering.{nat_cmp}
-use Rattle.std.specs.Cmp.Lexicographic.{slice_cmp}
-use Rattle.std.specs.BTreeMap.{get_by}
+use Rattle.std.specs.HashMap.{get_by}
 use Rattle.bags.specs.Bag.{row_eq}
 use Rattle.plain_operators.specs.declared.key_places.RowIndex.TheInside.{Inside}
 use Rattle.plain_operators.specs.Operators.{distinct_rows}
@@ -23,7 +21,7 @@ abbrev pub indexed : Inside → List (List ℕ)
 indexed index = map (λ row. row.now) index.rows.now
 
 abbrev pub IsIndex : Inside → Type 0
-IsIndex index = GathersPlaces (λ row. get_by (λ k. slice_cmp nat_cmp row k.now) index.numbers) (map (λ places. places.items) index.groups.items) (indexed index)
+IsIndex index = GathersPlaces (λ row. get_by (λ k. row_eq row k.now) index.numbers) (map (λ places. places.items) index.groups.items) (indexed index)
 
 -- groups of places of which one gets one more
 abbrev pub with_place : List (List ℕ) → ℕ → ℕ → List (List ℕ)

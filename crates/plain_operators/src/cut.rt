@@ -1,8 +1,9 @@
 //! Rows cut to columns.
 
 ghost use Rattle.std.specs.Prelude.{◌≡◌, ◌++◌, length, map, IfOk, OnOk};
+ghost use Rattle.std.specs.List.{flat_map};
 ghost use Rattle.plain_operators.specs.Columns as plain;
-ghost use Rattle.plain_operators.specs.Rows.{lent, owned};
+ghost use Rattle.plain_operators.specs.Rows.{lent};
 ghost use Rattle.plain_operators.specs.Within.{EachFits, HasColumns};
 
 use std::alloc::{AllocError, Global};
@@ -37,31 +38,38 @@ pub fn is_key(keys: &[u32], column: usize) -> bool
     keys.iter().any(|key| *key as usize == column)
 }
 
-// Each row cut to these columns.
+// The words of each row in these columns, row behind row.
 pub(crate) fn cut_rows(
     alloc: Global,
     columns: &[u32],
     rows: &[&[u64]],
-) -> Result<Vec<Vec<u64>>, AllocError>
+) -> Result<Vec<u64>, AllocError>
     requires { EachFits (HasColumns columns.now) rows.now }
-    ensures { IfOk result (λ made. owned made.items ≡ map (plain.cut columns.now) (lent rows.now)) }
+    ensures { IfOk result (λ words. words.items ≡ flat_map (plain.cut columns.now) (lent rows.now)) }
 {
-    let mut made = Vec::new(alloc);
+    let mut words = Vec::new(alloc);
     for row in rows {
-        let mut words = Vec::new(alloc);
         add_cut(columns, row, &mut words)?;
-        made.push(words)?;
     }
-    Ok(made)
+    Ok(words)
 }
 
-// The rows, lent.
-pub(crate) fn lend(alloc: Global, rows: &[Vec<u64>]) -> Result<Vec<&[u64]>, AllocError>
-    ensures { IfOk result (λ made. lent made.items ≡ owned rows.now) }
+// Each row cut to these columns, lent from their words.
+pub(crate) fn lend<'a>(
+    alloc: Global,
+    columns: &[u32],
+    rows: &[&[u64]],
+    words: &'a [u64],
+) -> Result<Vec<&'a [u64]>, AllocError>
+    requires { words.now ≡ flat_map (plain.cut columns.now) (lent rows.now) }
+    ensures { IfOk result (λ cut. lent cut.items ≡ map (plain.cut columns.now) (lent rows.now)) }
 {
-    let mut lent = Vec::new(alloc);
-    for row in rows {
-        lent.push(row.as_slice())?;
+    let mut cut = Vec::with_capacity(alloc, rows.len())?;
+    let mut rest = words;
+    for _row in rows {
+        let (first, others) = rest.split_at(columns.len());
+        cut.push(first)?;
+        rest = others;
     }
-    Ok(lent)
+    Ok(cut)
 }

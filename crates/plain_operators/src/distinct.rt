@@ -5,12 +5,12 @@ ghost use Rattle.plain_operators.specs.Rows.{lent};
 
 use crate::limit::is_reached;
 use std::alloc::{AllocError, Global};
-use std::collections::BTreeSet;
+use std::collections::HashSet;
 
-/// Each row at its first occurrence, in order, by a look-up for each row in a set of those seen.
+/// Each row at its first occurrence, in order, by a look-up for each row in a hash set of those seen.
 ///
 /// The rows are lent and none is copied. With a limit these are the first, so many at most, and no row behind the last
-/// of them is looked up. Takes n log n comparisons of rows.
+/// of them is looked up.
 pub fn distinct_rows<'a>(
     alloc: Global,
     rows: &[&'a [u64]],
@@ -19,7 +19,7 @@ pub fn distinct_rows<'a>(
     ensures { IfOk result (λ kept. lent kept.items
         ≡ first_of limit (plain.distinct_rows (lent rows.now))) }
 {
-    let mut seen = BTreeSet::new(alloc);
+    let mut seen = HashSet::new(alloc);
     let mut kept = Vec::new(alloc);
     for row in rows {
         if is_reached(limit, kept.len()) {

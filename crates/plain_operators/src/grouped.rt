@@ -17,7 +17,7 @@ use std::alloc::{AllocError, Global};
 /// rows with these keys.
 ///
 /// With a limit these are the first, so many at most, and no other is made; but the places of all groups are gathered.
-/// Takes n log n comparisons of keys.
+/// Takes a look-up for each row in a hash map of the distinct keys.
 pub fn grouped_rows(
     alloc: Global,
     keys: &[u32],
@@ -30,9 +30,9 @@ pub fn grouped_rows(
     ensures { IfOk result (λ made. owned made.items
         ≡ first_of limit (plain.grouped_rows keys.now aggregates.now (lent rows.now))) }
 {
-    let cut = cut_rows(alloc, keys, rows)?;
-    let lent = lend(alloc, &cut)?;
-    let groups = grouped_places(alloc, &lent)?;
+    let words = cut_rows(alloc, keys, rows)?;
+    let cut = lend(alloc, keys, rows, &words)?;
+    let groups = grouped_places(alloc, &cut)?;
     rows_of_groups(alloc, keys, aggregates, rows, first_of(&groups, limit))
 }
 

@@ -14,7 +14,7 @@ use std::alloc::{AllocError, Global};
 /// For each left row, for each right row with equal keys: the keys, then the left's other words, then the right's.
 ///
 /// A key is a column of the left and one of the right. With a limit these are the first rows, so many at most, and no
-/// other is made. Takes a look-up for each row in a map of the right's keys, n log n comparisons.
+/// other is made. Takes a look-up for each row in a hash map of the right's keys.
 pub fn joined_rows(
     alloc: Global,
     keys: &[(u32, u32)],
@@ -29,9 +29,9 @@ pub fn joined_rows(
 {
     let left_keys = left_keys(alloc, keys)?;
     let right_keys = right_keys(alloc, keys)?;
-    let cut = cut_rows(alloc, &right_keys, rights)?;
-    let lent = lend(alloc, &cut)?;
-    let index = RowIndex::new(alloc, &lent)?;
+    let words = cut_rows(alloc, &right_keys, rights)?;
+    let cut = lend(alloc, &right_keys, rights, &words)?;
+    let index = RowIndex::new(alloc, &cut)?;
     rows_found(alloc, &left_keys, &right_keys, lefts, rights, &index, limit)
 }
 

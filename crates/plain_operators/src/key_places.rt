@@ -4,14 +4,14 @@ ghost use Rattle.plain_operators.specs.Places as plain;
 ghost use Rattle.plain_operators.specs.Rows.{lent, owned};
 
 use std::alloc::{AllocError, Global};
-use std::collections::BTreeMap;
+use std::collections::HashMap;
 use std::marker::Model;
 
 // Rows by their words: the places of each distinct row, and its number among these. Seen as the rows.
 #[derive(Drop)]
 pub(crate) struct RowIndex<'a> {
     rows: &'a [&'a [u64]],
-    numbers: BTreeMap<&'a [u64], usize>,
+    numbers: HashMap<&'a [u64], usize>,
     groups: Vec<Vec<usize>>,
 }
 
@@ -31,10 +31,10 @@ impl<'a> RowIndex<'a> {
     pub(crate) fn new(alloc: Global, rows: &'a [&'a [u64]]) -> Result<RowIndex<'a>, AllocError>
         ensures { IfOk result (λ index. index ≡ lent rows.now) }
     {
-        let mut numbers = BTreeMap::new(alloc);
+        let mut numbers = HashMap::new(alloc);
         let mut groups = Vec::new(alloc);
         for (place, row) in rows.iter().enumerate() {
-            match numbers.get(*row).copied() {
+            match numbers.get(row).copied() {
                 Some(number) => add_place(&mut groups, number, place)?,
                 None => {
                     numbers.insert(*row, groups.len())?;
@@ -53,7 +53,7 @@ impl<'a> RowIndex<'a> {
     pub(crate) fn places(&self, row: &[u64]) -> &[usize]
         ensures { result.now ≡ plain.places_with self.now row.now }
     {
-        match self.numbers.get(row).copied() {
+        match self.numbers.get(&row).copied() {
             Some(number) => self.groups[number].as_slice(),
             None => &[],
         }
@@ -75,7 +75,7 @@ impl<'a> RowIndex<'a> {
 /// The places, from 0, of each distinct row: one list for each, in the order of the first places.
 ///
 /// With rows cut to keys these are the places of each group. The rows are lent and none is copied. Takes a look-up
-/// for each row in a map of the distinct ones, n log n comparisons.
+/// for each row in a hash map of the distinct ones.
 pub fn grouped_places(alloc: Global, rows: &[&[u64]]) -> Result<Vec<Vec<usize>>, AllocError>
     ensures { IfOk result (λ groups. owned groups.items ≡ plain.grouped_places (lent rows.now)) }
 {

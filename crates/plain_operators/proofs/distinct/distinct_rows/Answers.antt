@@ -1,10 +1,7 @@
 use Rattle.std.proofs.Common.{◌≡◌, ◌+◌, ℕ, List, [], ◌∷◌, ◌++◌, Bor, true, cond, not, map, take, drop, length, get_or, sym, ap, subst, ◌∙◌}
 use Rattle.std.specs.List.{filter}
-use Rattle.std.specs.Ordering.{nat_cmp}
-use Rattle.std.specs.Cmp.Lexicographic.{slice_cmp}
-use Rattle.std.specs.BTreeSet.{contains_by}
+use Rattle.std.specs.HashSet.{contains_by}
 use Rattle.std.proofs.lemmas.List.{append-nil, length-map, map-append, map_more, map_push, take-append-drop, take_all}
-use Rattle.std.proofs.lemmas.Map.Text.{is_eq-slice_cmp}
 use Rattle.bags.specs.Bag.{row_eq}
 use Rattle.plain_operators.specs.Limits.{first_of, is_reached}
 use Rattle.plain_operators.specs.Operators.{distinct_rows}
@@ -43,10 +40,10 @@ loop-row-preserved c =
     let limit = c.args.limit in
     let none : Bor (List ℕ) = record { ref_ptr = (0, 0); now = [] } in
     let row = get_or rows c.loop-row.row-index none in
-    let seen_before = λ (other : List ℕ). contains_by (λ (k : Bor (List ℕ)). slice_cmp nat_cmp other k.now) c.loop-row.seen in
-    let seen_after = λ (other : List ℕ). contains_by (λ (k : Bor (List ℕ)). slice_cmp nat_cmp other k.now) c.insert.new.self in
+    let seen_before = λ (other : List ℕ). contains_by (λ (k : Bor (List ℕ)). row_eq other k.now) c.loop-row.seen in
+    let seen_after = λ (other : List ℕ). contains_by (λ (k : Bor (List ℕ)). row_eq other k.now) c.insert.new.self in
     let updated : (other : List ℕ) → seen_after other ≡ cond (row_eq row.now other) true (seen_before other) = λ other.
-    c.in_ok-insert.ensures.updates.0 (record { ref_ptr = (0, 0); now = other }) ∙ ap (λ b. cond b true (seen_before other)) (is_eq-slice_cmp row.now other) in
+    c.in_ok-insert.ensures.updates.0 (record { ref_ptr = (0, 0); now = other }) in
     let kept = lent c.loop-row.kept.items in
     let added = c.in_ok-insert.field-0 in
     let before = lent (take c.loop-row.row-index rows) in

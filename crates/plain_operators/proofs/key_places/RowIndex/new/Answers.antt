@@ -1,9 +1,6 @@
 use Rattle.std.proofs.Common.{◌≡◌, ◌+◌, ℕ, List, [], ◌∷◌, ◌++◌, Bor, Option, Some, Vec, Global, vec_len, cond, map, take, set, length, get_or, sym, ap, subst, ◌∙◌, arith}
-use Rattle.std.specs.Ordering.{nat_cmp}
-use Rattle.std.specs.Cmp.Lexicographic.{slice_cmp}
-use Rattle.std.specs.BTreeMap.{BTreeMap, get_by}
+use Rattle.std.specs.HashMap.{HashMap, get_by}
 use Rattle.std.proofs.lemmas.List.{length-map, length-take-le, map_more, map_push}
-use Rattle.std.proofs.lemmas.Map.Text.{is_eq-slice_cmp}
 use Rattle.bags.specs.Bag.{row_eq}
 use Rattle.plain_operators.specs.Index.{GathersPlaces}
 use Rattle.plain_operators.proofs.KeyPlaces.{gathers_known, gathers_new}
@@ -20,15 +17,15 @@ add_place-requires c =
     omega (arith, known.0, c.loop-place.groups.ok.0)
 
 -- what the map says of a row
-look : BTreeMap (Bor (List ℕ)) ℕ → List ℕ → Option ℕ
-look numbers row = get_by (λ k. slice_cmp nat_cmp row k.now) numbers
+look : {S : Type 0} → HashMap (Bor (List ℕ)) ℕ S → List ℕ → Option ℕ
+look numbers row = get_by (λ k. row_eq row k.now) numbers
 
 vec_length : (v : Vec (Vec ℕ Global) Global) → vec_len v ≡ length v.items
 vec_length v = v.ok.0
 
 -- what was gathered, by equal maps and lists
-moved : {m n : BTreeMap (Bor (List ℕ)) ℕ} {gs hs rs ts : List (List ℕ)} → m ≡ n → gs ≡ hs → rs ≡ ts → GathersPlaces (look n) hs ts → GathersPlaces (look m) gs rs
-moved {m} {n} {gs} {hs} {rs} {ts} e f g h = subst (λ k. GathersPlaces (look k) gs rs) (sym e) (subst (λ l. GathersPlaces (look n) l rs) (sym f) (subst (GathersPlaces (look n) hs) (sym g) h))
+moved : {S : Type 0} {m n : HashMap (Bor (List ℕ)) ℕ S} {gs hs rs ts : List (List ℕ)} → m ≡ n → gs ≡ hs → rs ≡ ts → GathersPlaces (look n) hs ts → GathersPlaces (look m) gs rs
+moved {S} {m} {n} {gs} {hs} {rs} {ts} e f g h = subst (λ k. GathersPlaces (look k) gs rs) (sym e) (subst (λ l. GathersPlaces (look n) l rs) (sym f) (subst (GathersPlaces (look n) hs) (sym g) h))
 
 pub loop-place-preserved : goal.loop-place-preserved
 unfolding look
@@ -53,7 +50,7 @@ loop-place-preserved c =
       | in-None+in_ok-insert-in-None+in_ok-one_place-in-None+in_ok-push-in-None w ↦
           let count : w.len.result ≡ length groups = w.len.ensures ∙ vec_length c.loop-place.groups ∙ sym (length-map c.loop-place.groups.items listed) in
           let updated : (other : List ℕ) → look w.insert.new.self other ≡ cond (row_eq row.now other) (Some (length groups)) (look old other) = λ other.
-          w.in_ok-insert-in-None.ensures.updates.0 (record { ref_ptr = (0, 0); now = other }) ∙ (λ i. cond (is_eq-slice_cmp row.now other i) (Some (count i)) (look old other)) in
+          w.in_ok-insert-in-None.ensures.updates.0 (record { ref_ptr = (0, 0); now = other }) ∙ ap (λ n. cond (row_eq row.now other) (Some n) (look old other)) count in
           let new = gathers_new (look old) groups rows row.now c.loop-place.invariant (look w.insert.new.self) (asked ∙ w.in-None.is) updated in
           let made : map listed c.match-copied.groups.items ≡ groups ++ (length rows ∷ []) ∷ [] =
           ap (λ v. map listed v.items) w.groups-is ∙ ap (map listed) w.in_ok-push-in-None.ensures.items ∙ map_push listed c.loop-place.groups.items w.in_ok-one_place-in-None.field-0
