@@ -1,20 +1,18 @@
 -- What circuits add to a list, and which environments its wires have.
-use Rattle.std.proofs.Common.{◌≡◌, ℕ, suc, zero, ◌+◌, ◌<◌, ◌≤◌, Bool, true, false, cond, List, [], ◌∷◌, ◌++◌, length, get_or, refl, sym, ap, ◌∙◌, subst, arith, true≢false}
+use Rattle.std.proofs.Common.{◌≡◌, ℕ, suc, zero, ◌<◌, Bool, true, false, cond, List, [], ◌∷◌, ◌++◌, length, get_or, refl, sym, ap, ◌∙◌, subst, arith, true≢false}
 use Rattle.std.specs.Prelude.{IsTrue}
 use Rattle.std.specs.List.{AllZip}
 use Rattle.lanes.specs.declared.party.Party.{Party}
 use Rattle.step_lists.specs.declared.step.Shape.{Shape}
 use Rattle.step_lists.specs.declared.step.Step.{Step}
 use Rattle.step_lists.specs.declared.step.Step.TheVariants.{Const, Lin, And, Share, Reveal, Steer, Tell, Work, Flag}
-use Rattle.step_lists.specs.Layout.{Steps, Layout, grown, layout_of, starting}
+use Rattle.step_lists.specs.Layout.{Layout, grown, layout_of, starting}
 use Rattle.step_lists.specs.Draws.{ThreeTapes, needs_of, taken, dropped}
 use Rattle.step_lists.specs.Run.{tape_cut, rest_after}
-use Rattle.step_lists.specs.Open.{Open, SlotWords, register, open_of, open_going}
+use Rattle.step_lists.specs.Open.{Open, register, open_of, open_going}
 use Rattle.step_lists.specs.Seen.{AreAlike, none, seen_from, seen_step}
-use Rattle.step_lists.specs.Possible.{ands_in}
 use Rattle.step_lists.specs.Laws.{ValuesHaveShapes}
-use Rattle.emit.specs.Adds.{Adds, AllMay, is_circuit, wants_nothing}
-use Rattle.emit.specs.Emit.{GrowsByCircuit}
+use Rattle.emit.specs.Adds.{AllMay, is_circuit}
 use Rattle.emit.specs.Laws.{EnvironmentsExist, CarriedIsOpened, CircuitsAdd}
 
 module _ {T : Type 0} (answer : T → List (List ℕ) → List (List ℕ)) where
@@ -37,20 +35,14 @@ module _ {T : Type 0} (answer : T → List (List ℕ) → List (List ℕ)) where
       one (Tell source target r) h false = absurd (true≢false (sym h))
       one (Flag p r) h false = absurd (true≢false (sym h))
 
-  circuit_adds : (a b : Steps T) (n : ℕ) → GrowsByCircuit a b → ands_in b ≤ ands_in a + n → Adds answer (λ (slots : SlotWords). slots) a b is_circuit n wants_nothing
-  circuit_adds a b n h few = record {
+  pub circuits_add : CircuitsAdd answer
+  circuits_add a b n h few = record {
     front = h.front;
     kinds = h.kinds;
     words = few;
     shown = λ slots ds p v.
         subst (λ xs. AreAlike xs [])
         (sym (unseen v (layout_of a) (open_of answer a slots ds) h.front.more (rest_after tape_cut (starting a.first) a.steps ds) h.kinds)) none;
-  }
-
-  pub circuits_add : CircuitsAdd answer
-  circuits_add = record {
-    counted = λ a b n h rose below. circuit_adds a b n h (omega (arith, rose, below));
-    bounded = λ a b n h rose below. circuit_adds a b n h (omega (arith, rose, below));
   }
 
 zip_at : {A B : Type 0} (R : A → B → Type 0) (xs : List A) (ys : List B) (k : ℕ) (d : A) (e : B) → AllZip R xs ys → k < length xs → R (get_or xs k d) (get_or ys k e)

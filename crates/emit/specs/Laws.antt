@@ -1,8 +1,8 @@
 -- What a caller knows of a list over which wires were made.
-use Rattle.std.specs.Prelude.{◌≡◌, All, ℕ, ◌+◌, ◌-◌, ◌^◌, ◌<◌, ◌≤◌, Bool, List}
+use Rattle.std.specs.Prelude.{◌≡◌, All, ℕ, ◌+◌, ◌^◌, ◌<◌, ◌≤◌, Bool, List}
 use Rattle.wires.specs.declared.wire.Wire.{Wire}
 use Rattle.wires.specs.Environment.{Environment}
-use Rattle.wires.specs.Growth.{Carries, capped}
+use Rattle.wires.specs.Growth.{Carries}
 use Rattle.step_lists.specs.declared.step.Shape.{Shape}
 use Rattle.step_lists.specs.Layout.{Steps, layout_of}
 use Rattle.step_lists.specs.Draws.{ThreeTapes}
@@ -31,10 +31,7 @@ CarriedIsOpened {T} accepts answer =
     → (slots : SlotWords) (ds : ThreeTapes) → Possible answer list slots ds
     → register (open_of answer list slots ds) wire.0 ≡ value (register (open_of answer list slots ds))
 
--- circuits add constants, linear steps and Ands, and show nothing to anyone; their AND words are those by which the count
--- rose, where the list's own or the bound on them is below the count's last number
-pub record CircuitsAdd {T : Type 0} (answer : T → List (List ℕ) → List (List ℕ)) : Type 0 where
-  pub counted : (a b : Steps T) (n : ℕ) → GrowsByCircuit a b → capped (ands_in b) ≤ capped (ands_in a) + n → ands_in b < 2 ^ 64
-      → Adds answer (λ (slots : SlotWords). slots) a b is_circuit n wants_nothing
-  pub bounded : (a b : Steps T) (n : ℕ) → GrowsByCircuit a b → capped (ands_in b) ≤ capped (ands_in a) + n → ands_in a + n < 2 ^ 64 - 1
-      → Adds answer (λ (slots : SlotWords). slots) a b is_circuit n wants_nothing
+-- circuits add constants, linear steps and Ands, of at most as many AND words as the count rose, and show nothing to anyone
+abbrev pub CircuitsAdd : {T : Type 0} → (T → List (List ℕ) → List (List ℕ)) → Type 0
+CircuitsAdd {T} answer =
+    (a b : Steps T) (n : ℕ) → GrowsByCircuit a b → ands_in b ≤ ands_in a + n → Adds answer (λ (slots : SlotWords). slots) a b is_circuit n wants_nothing

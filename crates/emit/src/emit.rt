@@ -1,26 +1,29 @@
 //! Wires over a step list.
 #![tactic(auto)]
 
-ghost use Rattle.std.specs.Prelude.{◌≡◌, IfOk, OnErr, map};
-ghost use Rattle.emit.specs.Emit.{IsAdded};
+ghost use Rattle.std.specs.Prelude.{◌≡◌, ◌<◌, ◌^◌, IfOk, OnErr, map};
+ghost use Rattle.step_lists.specs.Possible.{ands_in};
+ghost use Rattle.emit.specs.Emit.{IsAdded, calls_in};
 
 use lanes::{Numbers, Words, xor_laws};
 use std::alloc::{AllocError, Global};
+use step_lists::laws::ands_are_few;
 use step_lists::{LinOp, Step, StepList, Task};
 use wires::{Wire, Wires};
 
 /// Wires over a step list: wire i is register i, and each call pushes one step. A step for whose register there is no
-/// number left finds no memory.
+/// number left finds no memory. The AND words and the AND calls are those of the list, and never meet the cap.
 #[derive(Drop)]
 pub struct Emit<'a, T: Task> {
     list: &'a mut StepList<T>,
 }
 
 impl<'a, T: Task> Emit<'a, T> {
+    ghost use Rattle.emit.specs.Borrowed.{IsOver};
+
     /// Wires over this list, whose registers are the first wires.
     pub fn new(list: &'a mut StepList<T>) -> Emit<'a, T>
-        ensures borrows { result.list.ghost_name ≡ list.entry.ghost_name }
-        ensures now { result.list.now ≡ list.old }
+        ensures { IsOver result list.entry }
     {
         Emit { list }
     }
@@ -38,37 +41,48 @@ fn add<T: Task>(list: &mut StepList<T>, step: Step<T>) -> Result<Wire, AllocErro
     }
 }
 
+// Each And makes a register, and so both counts are below the last one.
+fn counts_are_few<T: Task>(list: &StepList<T>)
+    ensures ands { ands_in list.now < 2 ^ 64 }
+    ensures calls { calls_in list.now < 2 ^ 32 }
+{
+    ands_are_few::<T>();
+    // Their contracts say that the list is well-formed, and its registers few and short.
+    let _ = list.steps();
+    let _ = list.registers();
+}
+
 fn allocator<T: Task>(list: &StepList<T>) -> Global {
     *list.steps().allocator()
 }
 
 impl<'a, T: Task> Wires for Emit<'a, T> {
-    ghost use Rattle.std.proofs.Common.{refl, ◌∙◌};
-    ghost use Rattle.wires.specs.Growth.{capped};
     ghost use Rattle.step_lists.specs.Layout.{layout_of};
     ghost use Rattle.step_lists.specs.Possible.{ands_in};
-    ghost use Rattle.emit.specs.Emit.{AreOpenValues, GrowsByCircuit, calls_in};
-    ghost use Rattle.emit.specs.EmitLaws.{circuit_refl, circuit_trans, circuit_keeps, circuit_possible, open_fits};
+    ghost use Rattle.emit.specs.Borrowed.{GrowsOver, borrowed};
+    ghost use Rattle.emit.specs.BorrowedLaws.{over_keeps, over_refl, over_trans};
+    ghost use Rattle.emit.specs.Emit.{AreOpenValues, calls_in};
+    ghost use Rattle.emit.specs.EmitLaws.{circuit_possible, open_fits};
 
-    ghost shape = { λ e. (layout_of e.list.now).registers };
+    ghost shape = { λ e. (layout_of (borrowed e).now).registers };
 
-    ghost ands = { λ e. capped (ands_in e.list.now) };
+    ghost ands = { λ e. ands_in (borrowed e).now };
 
-    ghost and_calls = { λ e. capped (calls_in e.list.now) };
+    ghost and_calls = { λ e. calls_in (borrowed e).now };
 
-    ghost possible = { λ e. AreOpenValues T.answer e.list.now };
+    ghost possible = { λ e. AreOpenValues T.answer (borrowed e).now };
 
-    ghost grown = { λ a b. (a.list.ghost_name ≡ b.list.ghost_name) × GrowsByCircuit a.list.now b.list.now };
+    ghost grown = { GrowsOver };
 
-    ghost grown_refl = { λ a. (refl, circuit_refl a.list.now) };
+    ghost grown_refl = { over_refl };
 
-    ghost grown_trans = { λ a b c h k. (h.0 ∙ k.0, circuit_trans a.list.now b.list.now c.list.now h.1 k.1) };
+    ghost grown_trans = { over_trans };
 
-    ghost grown_keeps = { λ a b h. circuit_keeps a.list.now b.list.now h.1 };
+    ghost grown_keeps = { over_keeps };
 
-    ghost grown_possible = { λ a b h. circuit_possible T.answer a.list.now b.list.now h.1 };
+    ghost grown_possible = { λ a b h. circuit_possible T.answer (borrowed a).now (borrowed b).now h.steps };
 
-    ghost fits = { λ a. open_fits T.answer a.list.now };
+    ghost fits = { λ a. open_fits T.answer (borrowed a).now };
 
     fn lanes(&self, wire: Wire) -> usize {
         self.list.length(wire.0) as usize
@@ -93,6 +107,7 @@ impl<'a, T: Task> Wires for Emit<'a, T> {
             right: right.0,
         };
         let new = add(self.list, step)?;
+        counts_are_few(self.list);
         Ok(new)
     }
 
