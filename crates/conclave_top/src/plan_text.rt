@@ -107,7 +107,7 @@ fn add_output(
     ensures { OnOk result (text.new.items ≡ text.old.items ++ output_line nodes.now output.now) }
 {
     let set = set_text(output.recipients);
-    let rows = rows_of(nodes, output.node);
+    let rows = declared_rows(nodes, output.node);
     let behind = format!(in alloc; " to {set} rows {rows}\n")?;
     text.extend_from_slice(b"output ")?;
     text.extend_from_slice(name_of(nodes, output.node))?;
@@ -115,7 +115,7 @@ fn add_output(
 }
 
 /// The declared rows of the node with this number.
-fn rows_of(nodes: &[Node], number: u32) -> u32
+fn declared_rows(nodes: &[Node], number: u32) -> u32
     ensures { result ≡ rows_at nodes.now number }
 {
     match nodes.get(number as usize) {

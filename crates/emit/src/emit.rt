@@ -5,7 +5,8 @@ ghost use Rattle.std.specs.Prelude.{◌≡◌, ◌<◌, ◌^◌, IfOk, OnErr, ma
 ghost use Rattle.step_lists.specs.Possible.{ands_in};
 ghost use Rattle.emit.specs.Emit.{IsAdded, calls_in};
 
-use lanes::{Numbers, Words, xor_laws};
+use lanes::xor_laws;
+use listed::{Numbers, Words};
 use std::alloc::{AllocError, Global};
 use step_lists::laws::ands_are_few;
 use step_lists::{LinOp, Step, StepList, Task};

@@ -17,7 +17,7 @@ use Rattle.step_lists.specs.Phases.{no_words}
 use Rattle.step_lists.specs.Machine.{Machine, shares, slot_of, delivered}
 use Rattle.joint_machine.specs.Ready.{HasRows, IsMade, IsReadyLin}
 use Rattle.joint_machine.specs.Left.{AreNext, needs_share}
-use Rattle.joint_machine.specs.Steps.{IsAnd, IsShared, IsReveal, IsSteer, rows_of, rows_of_all}
+use Rattle.joint_machine.specs.Steps.{IsAnd, IsShared, IsReveal, IsSteer, register_rows, rows_of_all}
 use Rattle.joint_machine.specs.Stepping.{IsReady, IsStepped}
 use Rattle.joint_machine.proofs.Listing.{true_apart, both, below, equal, all_hold, all_at, zip_maps}
 use Rattle.joint_machine.proofs.LinkLists.{delivered_none}
@@ -39,10 +39,10 @@ quiet new m e = e ∙ sym (delivered_none m)
 pub record AndReady (m : Machine) (left right n : ℕ) (ds : ThreeTapes) : Type 0 where
   pub made_left : IsMade m left
   pub made_right : IsMade m right
-  pub rows_left : HasRows (rows_of m left) (shares m left)
-  pub rows_right : HasRows (rows_of m left) (shares m right)
-  pub same : rows_of m left ≡ n
-  pub draws : AreNext (needs_each (rows_of m left)) ds
+  pub rows_left : HasRows (register_rows m left) (shares m left)
+  pub rows_right : HasRows (register_rows m left) (shares m right)
+  pub same : register_rows m left ≡ n
+  pub draws : AreNext (needs_each (register_rows m left)) ds
 
 pub record ShareReady (m : Machine) (p : Party) (slot n : ℕ) (ds : ThreeTapes) : Type 0 where
   pub made : slot < length (at p m.slots)
@@ -98,8 +98,8 @@ module _ {T : Type 0} (accepts : T → List Shape → List Shape → Bool) (answ
         draws = subst (λ n. AreNext (needs_each n) ds) (sym same) h.draws;
       }
 
-  pub and_stepped : (l : Layout) (m : Machine) (left right : ℕ) (ds : ThreeTapes) (new : Machine) (rest : ThreeTapes) → rows_of m left ≡ length_of l left
-      → IsAnd m left right (each words_in (taken (needs_each (rows_of m left)) ds)) new → rest ≡ dropped (needs_each (rows_of m left)) ds
+  pub and_stepped : (l : Layout) (m : Machine) (left right : ℕ) (ds : ThreeTapes) (new : Machine) (rest : ThreeTapes) → register_rows m left ≡ length_of l left
+      → IsAnd m left right (each words_in (taken (needs_each (register_rows m left)) ds)) new → rest ≡ dropped (needs_each (register_rows m left)) ds
       → IsStepped answer l (And left right) m ds new rest
   and_stepped l m left right ds new rest e h i = record {
     machine = subst (λ n. IsAnd m left right (each words_in (taken (needs_each n) ds)) new) e h;

@@ -87,11 +87,11 @@ IsSteer m n p g moved ds new =
 -- ---- rows of registers
 
 -- how many words each share of a register has, and those of registers that are moved together
-abbrev pub rows_of : Machine → ℕ → ℕ
-rows_of m r = length (shares m r).first
+abbrev pub register_rows : Machine → ℕ → ℕ
+register_rows m r = length (shares m r).first
 
 abbrev pub rows_of_all : Machine → List ℕ → ℕ
-rows_of_all m moved = rows_of m (slice_index moved 0)
+rows_of_all m moved = register_rows m (slice_index moved 0)
 
 -- a share, by what the tapes hold for it
 abbrev pub IsShared : Machine → Party → ℕ → ThreeTapes → Machine → Type 0

@@ -8,7 +8,7 @@ ghost use Rattle.step_lists.specs.Draws.{needs_each, needs_reveal, needs_steer, 
 ghost use Rattle.step_lists.specs.Machine.{shares, slot_of};
 ghost use Rattle.joint_machine.specs.Left.{lefts, needs_share, AreNext};
 ghost use Rattle.joint_machine.specs.Ready.{HasRows, HaveRows, IsMade};
-ghost use Rattle.joint_machine.specs.Steps.{IsAnd, IsShared, IsReveal, IsSteer, rows_of, rows_of_all};
+ghost use Rattle.joint_machine.specs.Steps.{IsAnd, IsShared, IsReveal, IsSteer, register_rows, rows_of_all};
 
 use crate::draws::{draw_masks, draw_reveal, draw_share, draw_steer};
 use crate::machine::Machine;
@@ -20,7 +20,7 @@ impl Machine {
     // How many words each share of a register has.
     fn rows(&self, register: u32) -> usize
         requires { IsMade self.now register }
-        ensures { result ≡ rows_of self.now register }
+        ensures { result ≡ register_rows self.now register }
     {
         self.register(register).first.len()
     }
@@ -42,11 +42,11 @@ impl Machine {
     ) -> Result<(), AllocError>
         requires made_left { IsMade self.old left }
         requires made_right { IsMade self.old right }
-        requires left { HasRows (rows_of self.old left) (shares self.old left) }
-        requires right { HasRows (rows_of self.old left) (shares self.old right) }
-        requires draws { AreNext (needs_each (rows_of self.old left)) (lefts tapes.old) }
-        ensures machine { OnOk result (IsAnd self.old left right (each words_in (taken (needs_each (rows_of self.old left)) (lefts tapes.old))) self.new) }
-        ensures left { OnOk result (lefts tapes.new ≡ dropped (needs_each (rows_of self.old left)) (lefts tapes.old)) }
+        requires left { HasRows (register_rows self.old left) (shares self.old left) }
+        requires right { HasRows (register_rows self.old left) (shares self.old right) }
+        requires draws { AreNext (needs_each (register_rows self.old left)) (lefts tapes.old) }
+        ensures machine { OnOk result (IsAnd self.old left right (each words_in (taken (needs_each (register_rows self.old left)) (lefts tapes.old))) self.new) }
+        ensures left { OnOk result (lefts tapes.new ≡ dropped (needs_each (register_rows self.old left)) (lefts tapes.old)) }
     {
         let masks = draw_masks(tapes, self.rows(left));
         self.push_and(left, right, &masks)

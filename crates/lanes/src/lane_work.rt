@@ -2,7 +2,7 @@ ghost use Rattle.std.specs.Prelude.{◌≡◌, ℕ, ◌<◌, length, slice_index
 ghost use Rattle.lanes.specs.Word.{cross};
 ghost use Rattle.lanes.specs.Lanes.{xors, crosses, picked};
 
-use crate::listed::{Listed, Words};
+use listed::{Listed, Words};
 use std::alloc::{AllocError, Global};
 
 /// Xors a list of words into another one of the same length.

@@ -7,7 +7,7 @@ use Rattle.std.proofs.lemmas.List.Folds.{flat_map-map}
 use Rattle.lanes.specs.Table.{PlacesOfTable, table_place}
 use Rattle.tapes.specs.RowLaws.{row_across}
 use Rattle.padded.specs.Laws.{IsTableOfPairs, RowsOfPairs}
-use Rattle.padded.specs.Table.{Table, is_live, live, rows_of}
+use Rattle.padded.specs.Table.{Table, is_live, live, table_rows}
 use Rattle.padded.proofs.Elements.{filter-map, filter_agree_on, filter_filter, map_agree, map_map, range_below}
 
 map-flat_map : {X Y Z : Type 0} (f : Y → Z) (g : X → List Y) (xs : List X) → map f (flat_map g xs) ≡ flat_map (λ x. map f (g x)) xs
@@ -58,7 +58,7 @@ module _ (matches : List ℕ → List ℕ → Bool) (joined : List ℕ → List 
 
   -- the joined rows of a left row
   abbrev of_left : List ℕ → List (List ℕ)
-  of_left row = map (joined row) (filter (matches row) (rows_of rights))
+  of_left row = map (joined row) (filter (matches row) (table_rows rights))
 
   -- the places of the right that match the row at a place of the left, where a row stands there
   found : (i : ℕ) (b : Bool) → map (joined (left i)) (map right (filter (λ j. b && (is_live rights.valid j && matches (left i) (right j))) (range_with_len 0 m))) ≡ cond b (of_left (left i)) []
@@ -80,7 +80,7 @@ module _ (matches : List ℕ → List ℕ → Bool) (joined : List ℕ → List 
       ∙ sym (map_map (joined (left i)) right (filter passes all))
       ∙ found i (is_live lefts.valid i)
 
-  pub pairs_rows : PlacesOfTable → rows_of table ≡ flat_map (λ row. map (joined row) (filter (matches row) (rows_of rights))) (rows_of lefts)
+  pub pairs_rows : PlacesOfTable → table_rows table ≡ flat_map (λ row. map (joined row) (filter (matches row) (table_rows rights))) (table_rows lefts)
   pairs_rows places =
       let rows = range_with_len 0 n in
       let places_in = λ (i : ℕ). map (table_place m i) (range_with_len 0 m) in

@@ -8,7 +8,7 @@ use Rattle.lanes.specs.Table.{table_place}
 use Rattle.lanes.specs.Word.{AreWords}
 use Rattle.tapes.specs.Order.{IsOrder, applied}
 use Rattle.tapes.specs.RowLaws.{columns_applied, row_across}
-use Rattle.padded.specs.Table.{AreBits, IsTable, Table, appended, columns_at, is_live, opened_rows, pad, padded_columns, padded_valid, rows_in, rows_of, shown_rows, told, zeroed_columns}
+use Rattle.padded.specs.Table.{AreBits, IsTable, Table, appended, columns_at, is_live, opened_rows, pad, padded_columns, padded_valid, rows_in, table_rows, shown_rows, told, zeroed_columns}
 
 -- each row has so many words
 abbrev pub AreWide : ℕ → List (List ℕ) → Type 0
@@ -55,7 +55,7 @@ RowsOfKept = (test : List ℕ → Bool) (columns : List (List ℕ)) (valid kept 
 
 -- tables of one width one behind the other
 abbrev pub RowsOfAppended : Type 0
-RowsOfAppended = (width : ℕ) (tables : List Table) → All (IsTable width) tables → rows_of (appended width tables) ≡ flat_map rows_of tables
+RowsOfAppended = (width : ℕ) (tables : List Table) → All (IsTable width) tables → table_rows (appended width tables) ≡ flat_map table_rows tables
 
 -- a table with a place for each pair of a left and a right row, where the row of a pair is made of both
 pub record IsTableOfPairs (matches : List ℕ → List ℕ → Bool) (joined : List ℕ → List ℕ → List ℕ) (lefts rights table : Table) : Type 0 where
@@ -67,7 +67,7 @@ pub record IsTableOfPairs (matches : List ℕ → List ℕ → Bool) (joined : L
 -- its rows: for each left row, those of it with each right row that matches it
 abbrev pub RowsOfPairs : Type 0
 RowsOfPairs = (matches : List ℕ → List ℕ → Bool) (joined : List ℕ → List ℕ → List ℕ) (lefts rights table : Table) → IsTableOfPairs matches joined lefts rights table
-    → rows_of table ≡ flat_map (λ left. map (joined left) (filter (matches left) (rows_of rights))) (rows_of lefts)
+    → table_rows table ≡ flat_map (λ left. map (joined left) (filter (matches left) (table_rows rights))) (table_rows lefts)
 
 -- zeroed columns have the same rows; and opened with valid words of 0 and 1 they show these with a 1 behind each, and rows of zeros, in some order
 pub record RowsOfZeroed : Type 0 where

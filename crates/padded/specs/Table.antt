@@ -75,8 +75,8 @@ pub record Table : Type 0 where
   pub valid : List ℕ
 
 -- its valid rows
-abbrev pub rows_of : Table → List (List ℕ)
-rows_of table = rows_in table.columns table.valid
+abbrev pub table_rows : Table → List (List ℕ)
+table_rows table = rows_in table.columns table.valid
 
 -- so many columns, each with as many words as there are valid words
 pub record IsTable (width : ℕ) (table : Table) : Type 0 where

@@ -9,7 +9,6 @@
 #![tactic(auto)]
 
 pub mod laws;
-mod lists;
 mod table;
 
 pub use table::{pad_rows, sorted_rows, valid_rows};

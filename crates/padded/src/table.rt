@@ -3,11 +3,11 @@
 ghost use Rattle.std.specs.Prelude.{◌≡◌, length, slice_index, nat_lt, if◌then◌else◌, IfOk};
 ghost use Rattle.tapes.specs.Align.{row_at};
 ghost use Rattle.tapes.specs.RowLaws.{row_across};
-ghost use Rattle.padded.specs.Lists.{lent, owned};
+ghost use Rattle.listed.specs.Lists.{lent, owned};
 ghost use Rattle.padded.specs.Table.{pad, padded_column, rows_in, told, valid_up_to};
 
-use crate::lists::lend;
 use bags::sort_rows;
+use listed::lend;
 use std::alloc::{AllocError, Global};
 
 /// The valid rows of a padded table, in the order of their places. A row is valid where its valid word is 1; a word that

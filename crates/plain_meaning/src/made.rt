@@ -4,7 +4,7 @@
 ghost use Rattle.std.specs.Prelude.{◌≡◌, ◌+◌, [], length, map, IfOk};
 ghost use Rattle.plain_operators.specs.Limits.{first_of};
 ghost use Rattle.plain_operators.specs.OnSources.{group_of_rows};
-ghost use Rattle.plain_operators.specs.Rows.{lent, owned};
+ghost use Rattle.listed.specs.Lists.{lent, owned};
 ghost use Rattle.plain_operators.specs.Within.{AreAggregatesOf, EachFits, HasColumns};
 ghost use Rattle.plain_meaning.specs.Fits.{FitsConcat, FitsDistinct, FitsFilter, FitsGroup, FitsJoin, FitsSelect, widths_of};
 ghost use Rattle.plain_meaning.specs.Plain.{limit_of, listed_table};

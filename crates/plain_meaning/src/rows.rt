@@ -4,7 +4,7 @@
 ghost use Rattle.std.specs.Prelude.{◌≡◌, ◌<◌, ◌++◌, length, IfOk, OnOk};
 ghost use Rattle.std.specs.List.{All};
 ghost use Rattle.tables.specs.Content.{IsRectangular};
-ghost use Rattle.plain_operators.specs.Rows.{lent, owned};
+ghost use Rattle.listed.specs.Lists.{lent, owned};
 ghost use Rattle.plain_operators.specs.Sizes.{AllWide};
 ghost use Rattle.plain_meaning.specs.Fits.{widths_of, width_in};
 ghost use Rattle.plain_meaning.specs.Plain.{rows_in, table_of};

@@ -7,8 +7,8 @@ ghost use Rattle.plain_meaning.specs.Plain.{IsPlain, rows_of_tables};
 
 use crate::node::{is_over, node_table};
 use crate::world::World;
+use listed::Listed;
 use query_graph::Graph;
-use query_text::Sequence;
 use std::alloc::{AllocError, Global};
 use tables::Table;
 
@@ -16,7 +16,7 @@ use tables::Table;
 /// `at most`, whose number is in `over`.
 #[derive(Debug, Drop)]
 pub struct PlainRows {
-    pub tables: Sequence<Table>,
+    pub tables: Listed<Table>,
     pub over: Option<u32>,
 }
 
@@ -32,7 +32,7 @@ pub fn plain(alloc: Global, graph: &Graph, world: &World) -> Result<PlainRows, A
         let table = node_table(alloc, node, world, relation, &tables)?;
         if is_over(&node.shape, &table) {
             return Ok(PlainRows {
-                tables: Sequence::from_vec(tables),
+                tables: Listed::from_vec(tables),
                 over: Some(number as u32),
             });
         }
@@ -42,7 +42,7 @@ pub fn plain(alloc: Global, graph: &Graph, world: &World) -> Result<PlainRows, A
         tables.push(table)?;
     }
     Ok(PlainRows {
-        tables: Sequence::from_vec(tables),
+        tables: Listed::from_vec(tables),
         over: None,
     })
 }

@@ -11,6 +11,5 @@ pub mod OnSources
 pub mod Operators
 pub mod Places
 pub mod Regroup
-pub mod Rows
 pub mod Sizes
 pub mod Within

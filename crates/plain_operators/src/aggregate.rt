@@ -1,7 +1,7 @@
 ghost use Rattle.std.specs.Prelude.{◌≡◌, ◌<◌, length};
 ghost use Rattle.std.specs.List.{All};
 ghost use Rattle.plain_operators.specs.Operators as plain;
-ghost use Rattle.plain_operators.specs.Rows.{lent};
+ghost use Rattle.listed.specs.Lists.{lent};
 ghost use Rattle.plain_operators.specs.Within.{IsAggregateOf};
 
 /// What a group says of its rows: the sum of a column modulo 2^64, how many there are, or the least or the greatest

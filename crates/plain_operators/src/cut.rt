@@ -3,7 +3,7 @@
 ghost use Rattle.std.specs.Prelude.{◌≡◌, ◌++◌, length, map, IfOk, OnOk};
 ghost use Rattle.std.specs.List.{flat_map};
 ghost use Rattle.plain_operators.specs.Columns as plain;
-ghost use Rattle.plain_operators.specs.Rows.{lent};
+ghost use Rattle.listed.specs.Lists.{lent};
 ghost use Rattle.plain_operators.specs.Within.{EachFits, HasColumns};
 
 use std::alloc::{AllocError, Global};

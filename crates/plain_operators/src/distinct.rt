@@ -1,7 +1,7 @@
 ghost use Rattle.std.specs.Prelude.{◌≡◌, IfOk};
 ghost use Rattle.plain_operators.specs.Limits.{first_of};
 ghost use Rattle.plain_operators.specs.Operators as plain;
-ghost use Rattle.plain_operators.specs.Rows.{lent};
+ghost use Rattle.listed.specs.Lists.{lent};
 
 use crate::limit::is_reached;
 use std::alloc::{AllocError, Global};

@@ -4,7 +4,7 @@ ghost use Rattle.plain_operators.specs.Laws.{block_row};
 ghost use Rattle.plain_operators.specs.Limits.{first_of};
 ghost use Rattle.plain_operators.specs.Operators as plain;
 ghost use Rattle.plain_operators.specs.Places.{ArePlaces, row_at, row_of_places, rows_of_places};
-ghost use Rattle.plain_operators.specs.Rows.{lent, owned};
+ghost use Rattle.listed.specs.Lists.{lent, owned};
 ghost use Rattle.plain_operators.specs.Within.{AreAggregatesOf, EachFits, HasColumns};
 
 use crate::aggregate::Aggregate;

@@ -3,7 +3,7 @@ ghost use Rattle.std.specs.List.{All};
 ghost use Rattle.plain_operators.specs.Limits.{first_of, left_of};
 ghost use Rattle.plain_operators.specs.Operators as plain;
 ghost use Rattle.plain_operators.specs.Places.{joined_rows_at, joined_rows_found, rows_found};
-ghost use Rattle.plain_operators.specs.Rows.{lent, owned};
+ghost use Rattle.listed.specs.Lists.{lent, owned};
 ghost use Rattle.plain_operators.specs.Within.{EachFits, HasColumns};
 
 use crate::cut::{add_cut, add_others, cut_rows, lend};

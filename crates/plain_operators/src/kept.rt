@@ -3,7 +3,7 @@ ghost use Rattle.std.specs.List.{All, list_all};
 ghost use Rattle.plain_operators.specs.Items.{holds_of, item_word};
 ghost use Rattle.plain_operators.specs.Limits.{first_of};
 ghost use Rattle.plain_operators.specs.Operators as plain;
-ghost use Rattle.plain_operators.specs.Rows.{lent, owned};
+ghost use Rattle.listed.specs.Lists.{lent, owned};
 ghost use Rattle.plain_operators.specs.Within.{AreItemsOf, AreTestsOf, EachFits, IsItemOf, IsTestOf};
 
 use crate::item::{Item, Test};

@@ -1,7 +1,7 @@
 ghost use Rattle.std.specs.Prelude.{◌≡◌, ◌∷◌, [], ◌<◌, map, vec_len, IfOk, OnOk};
 ghost use Rattle.plain_operators.specs.Index.{with_place};
 ghost use Rattle.plain_operators.specs.Places as plain;
-ghost use Rattle.plain_operators.specs.Rows.{lent, owned};
+ghost use Rattle.listed.specs.Lists.{lent, owned};
 
 use std::alloc::{AllocError, Global};
 use std::collections::HashMap;

@@ -7,7 +7,7 @@ use Rattle.query_graph.specs.declared.node.Node.{Node}
 use Rattle.query_graph.specs.declared.node.Output.{Output}
 use Rattle.query_graph.specs.Build.{fault_of, node_of, output_of, with_node, with_output}
 use Rattle.query_graph.specs.Draft.{IsBuilt, IsDraft, content_of}
-use Rattle.query_graph.specs.Sizes.{cells, cells_of, rows_of, sizes_fit}
+use Rattle.query_graph.specs.Sizes.{cells, cells_of, declared_rows, sizes_fit}
 use Rattle.query_graph.specs.Columns.{columns_of}
 use Rattle.query_graph.proofs.Grown.{graph_with_node, graph_with_output}
 use Rattle.query_graph.proofs.Invariant.{cells_of-append, narrow-append, sizes_within}
@@ -16,9 +16,9 @@ use Rattle.query_graph.proofs.Invariant.{cells_of-append, narrow-append, sizes_w
 pub built_node : (before after : Inside) (n : Node) (rows width line : ℕ) (body : Body) → IsBuilt before → Fits body → fault_of (content_of before) line body ≡ None
     → output_of before.nodes line body ≡ None → sizes_fit before.nodes body ≡ true → length before.nodes < 4294967295
     → n ≡ node_of before.nodes line body → after.nodes ≡ before.nodes ++ n ∷ [] → after.outputs.items ≡ before.outputs.items
-    → after.cells ≡ before.cells + rows * (width + 1) → rows ≡ rows_of before.nodes body → width ≡ length (columns_of before.nodes body) → IsBuilt after
+    → after.cells ≡ before.cells + rows * (width + 1) → rows ≡ declared_rows before.nodes body → width ≡ length (columns_of before.nodes body) → IsBuilt after
 built_node before after n high width line body built real passes none fits few is pushed same counts high_is width_is =
-    let rows : n.rows ≡ rows_of before.nodes body = ap (λ (m : Node). m.rows) is in
+    let rows : n.rows ≡ declared_rows before.nodes body = ap (λ (m : Node). m.rows) is in
     let columns : n.columns ≡ columns_of before.nodes body = ap (λ (m : Node). m.columns) is in
     let counted : after.cells ≡ before.cells + cells n.rows (length n.columns)
     = counts ∙ (ap (λ r. before.cells + r * (width + 1)) (high_is ∙ sym rows) ∙ ap (λ w. before.cells + n.rows * (w + 1)) (width_is ∙ sym (ap length columns))) in

@@ -23,7 +23,7 @@ use Rattle.query_graph.specs.Kinds.{kinds_fit}
 use Rattle.query_graph.specs.Names.{is_node, node_columns, node_number}
 use Rattle.query_graph.specs.Parties.{no_party, parties_of}
 use Rattle.query_graph.specs.Shapes.{shape_fits}
-use Rattle.query_graph.specs.Sizes.{cell_limit, cells, cells_of, column_limit, constants_fit, counts_fit, is_bound, row_limit, rows_of, sizes_fit}
+use Rattle.query_graph.specs.Sizes.{cell_limit, cells, cells_of, column_limit, constants_fit, counts_fit, is_bound, row_limit, declared_rows, sizes_fit}
 use Rattle.query_graph.specs.Used.{unknown_columns, unknown_name, unknown_node, used_nodes}
 use Rattle.query_graph.proofs.Different.{names_push, outputs_push}
 use Rattle.query_graph.proofs.Faultless.{both_none, both_true, new_of, unless_none}
@@ -57,9 +57,9 @@ faultless graph line body passes =
 
 -- the size of its node is within the limits
 record IsWithin (nodes : List Node) (body : Body) : Type 0 where
-  pub rows : rows_of nodes body ≤ row_limit
+  pub rows : declared_rows nodes body ≤ row_limit
   pub columns : length (columns_of nodes body) ≤ column_limit
-  pub all : cells_of nodes + cells (rows_of nodes body) (length (columns_of nodes body)) ≤ cell_limit
+  pub all : cells_of nodes + cells (declared_rows nodes body) (length (columns_of nodes body)) ≤ cell_limit
 
 within : (graph : Content) (line : ℕ) (body : Body) → fault_of graph line body ≡ None → IsWithin graph.nodes body
 within graph line body passes =
@@ -68,13 +68,13 @@ within graph line body passes =
     let kinds = both_none (unless (kinds_fit graph.nodes body) (Kind line)) _ taken.1 in
     let shape = both_none (unless (shape_fits graph.nodes body) (Shape line)) (unless (sizes_fit graph.nodes body) (Size line)) kinds.1 in
     let sizes = both_true (counts_fit body && constants_fit body) _ (unless_none (sizes_fit graph.nodes body) (Size line) shape.1) in
-    let last = both_true (nat_le (rows_of graph.nodes body) row_limit && nat_le (length (columns_of graph.nodes body)) column_limit) _ sizes.1 in
-    let both = both_true (nat_le (rows_of graph.nodes body) row_limit) _ last.0 in
+    let last = both_true (nat_le (declared_rows graph.nodes body) row_limit && nat_le (length (columns_of graph.nodes body)) column_limit) _ sizes.1 in
+    let both = both_true (nat_le (declared_rows graph.nodes body) row_limit) _ last.0 in
     record { rows = le_of _ _ both.0; columns = le_of _ _ both.1; all = le_of _ _ last.1 }
 
 -- it has a row and a column
 some_of : (graph : Content) (line : ℕ) (body : Body) → IsDraft graph → FitsForm body → IsFaultless graph line body → output_of graph.nodes line body ≡ None
-    → (1 ≤ rows_of graph.nodes body) × (1 ≤ length (columns_of graph.nodes body))
+    → (1 ≤ declared_rows graph.nodes body) × (1 ≤ length (columns_of graph.nodes body))
 some_of graph line (bodies.Relation r) is form passes none = (count_some r.rows passes.counts, map_some declared_column r.columns form.1.0)
 some_of graph line (bodies.Filter f) is form passes none =
     let table = table_of graph line f.source [] is passes.nodes in (bounded_some f.at_most _ passes.counts table.0, table.1)

@@ -11,7 +11,7 @@ use Rattle.query_text.specs.declared.statement.Body.{Body}
 use Rattle.query_graph.specs.declared.node.Node.{Node}
 use Rattle.query_graph.specs.Columns.{columns_of}
 use Rattle.query_graph.specs.Names.{node_columns}
-use Rattle.query_graph.specs.Sizes.{AreNarrow, cell_limit, cells, cells_of, column_limit, constants_fit, counts_fit, rows_of, row_limit, sizes_fit}
+use Rattle.query_graph.specs.Sizes.{AreNarrow, cell_limit, cells, cells_of, column_limit, constants_fit, counts_fit, declared_rows, row_limit, sizes_fit}
 
 -- one of two lists that are short
 short : (b : Bool) (xs ys : List Column) → length xs ≤ column_limit → length ys ≤ column_limit → length (cond b xs ys) ≤ column_limit
@@ -48,15 +48,15 @@ le_of m n h = grind (arith, nat_tests)
 
 -- sizes that fit are within the limits
 pub sizes_within : (nodes : List Node) (body : Body) → sizes_fit nodes body ≡ true
-    → (length (columns_of nodes body) ≤ column_limit) × (cells_of nodes + cells (rows_of nodes body) (length (columns_of nodes body)) ≤ cell_limit)
+    → (length (columns_of nodes body) ≤ column_limit) × (cells_of nodes + cells (declared_rows nodes body) (length (columns_of nodes body)) ≤ cell_limit)
 sizes_within nodes body fits =
     let node = (and_both (counts_fit body && constants_fit body) _ fits).1 in
-    let both = and_both (nat_le (rows_of nodes body) row_limit && nat_le (length (columns_of nodes body)) column_limit) _ node in
-    let narrow = and_both (nat_le (rows_of nodes body) row_limit) _ both.0 in
+    let both = and_both (nat_le (declared_rows nodes body) row_limit && nat_le (length (columns_of nodes body)) column_limit) _ node in
+    let narrow = and_both (nat_le (declared_rows nodes body) row_limit) _ both.0 in
     (le_of _ _ narrow.1, le_of _ _ both.1)
 
 -- the cells of a node whose size fits are a number of 64 bits, and so are all cells with it
-pub cells_fit : (nodes : List Node) (body : Body) (before rows width : ℕ) → before ≡ cells_of nodes → sizes_fit nodes body ≡ true → rows ≡ rows_of nodes body
+pub cells_fit : (nodes : List Node) (body : Body) (before rows width : ℕ) → before ≡ cells_of nodes → sizes_fit nodes body ≡ true → rows ≡ declared_rows nodes body
     → width ≡ length (columns_of nodes body) → Fits w64 (rows * (width + 1)) × Fits w64 (before + rows * (width + 1))
 cells_fit nodes body before rows width counted fits rows_is width_is =
     let few : before + rows * (width + 1) ≤ cell_limit = rw (counted, rows_is, width_is) (sizes_within nodes body fits).1 in

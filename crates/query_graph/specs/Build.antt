@@ -19,7 +19,7 @@ use Rattle.query_graph.specs.Names.{column_number, node_columns, node_number}
 use Rattle.query_graph.specs.Operators.{aggregate_of, item_of, test_of}
 use Rattle.query_graph.specs.Parties.{parties_of}
 use Rattle.query_graph.specs.Shapes.{shape_fits}
-use Rattle.query_graph.specs.Sizes.{rows_of, sizes_fit}
+use Rattle.query_graph.specs.Sizes.{declared_rows, sizes_fit}
 use Rattle.query_graph.specs.Used.{unknown_name}
 
 -- the numbers of a key on the left and on the right
@@ -70,7 +70,7 @@ name_of (bodies.Output o) = []
 
 -- the node of a statement behind earlier nodes
 abbrev pub node_of : List Node → ℕ → Body → Node
-node_of nodes line body = record { name = name_of body; line = line; columns = columns_of nodes body; rows = rows_of nodes body; shape = operator_of nodes body }
+node_of nodes line body = record { name = name_of body; line = line; columns = columns_of nodes body; rows = declared_rows nodes body; shape = operator_of nodes body }
 
 abbrev pub with_node : Content → Node → Content
 with_node graph node = record { nodes = graph.nodes ++ node ∷ []; outputs = graph.outputs }

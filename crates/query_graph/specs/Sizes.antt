@@ -48,15 +48,15 @@ group_rows (key ∷ keys) parts rows = bounded_parts parts rows
 
 -- the declared rows of a statement's node: written, those of the source, the sum or the product of those of
 -- the sources, all under the node's bounds
-abbrev pub rows_of : List Node → Body → ℕ
-rows_of nodes (bodies.Relation r) = r.rows
-rows_of nodes (bodies.Filter f) = bounded f.at_most (node_rows nodes f.source)
-rows_of nodes (bodies.Select s) = node_rows nodes s.source
-rows_of nodes (bodies.Concat c) = sum (map (node_rows nodes) c.sources)
-rows_of nodes (bodies.Join j) = bounded j.at_most (node_rows nodes j.left * node_rows nodes j.right)
-rows_of nodes (bodies.Group g) = bounded g.at_most (group_rows g.keys g.parts_at_most (node_rows nodes g.source))
-rows_of nodes (bodies.Distinct d) = bounded d.at_most (node_rows nodes d.source)
-rows_of nodes (bodies.Output o) = 0
+abbrev pub declared_rows : List Node → Body → ℕ
+declared_rows nodes (bodies.Relation r) = r.rows
+declared_rows nodes (bodies.Filter f) = bounded f.at_most (node_rows nodes f.source)
+declared_rows nodes (bodies.Select s) = node_rows nodes s.source
+declared_rows nodes (bodies.Concat c) = sum (map (node_rows nodes) c.sources)
+declared_rows nodes (bodies.Join j) = bounded j.at_most (node_rows nodes j.left * node_rows nodes j.right)
+declared_rows nodes (bodies.Group g) = bounded g.at_most (group_rows g.keys g.parts_at_most (node_rows nodes g.source))
+declared_rows nodes (bodies.Distinct d) = bounded d.at_most (node_rows nodes d.source)
+declared_rows nodes (bodies.Output o) = 0
 
 -- the numbers of rows and the bounds that a statement writes are in their limits
 abbrev pub counts_fit : Body → Bool
@@ -113,4 +113,4 @@ AreNarrow nodes = (name : List ℕ) → length (node_columns nodes name) ≤ col
 
 -- the sizes of a statement fit; an output has neither rows nor columns
 abbrev pub sizes_fit : List Node → Body → Bool
-sizes_fit nodes body = counts_fit body && constants_fit body && node_fits nodes (rows_of nodes body) (length (columns_of nodes body))
+sizes_fit nodes body = counts_fit body && constants_fit body && node_fits nodes (declared_rows nodes body) (length (columns_of nodes body))

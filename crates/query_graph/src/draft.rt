@@ -11,7 +11,7 @@ use crate::node::{Node, Output};
 use crate::nodes::Nodes;
 use crate::operators::{node_of, output_of};
 use crate::rules::check_rules;
-use crate::sizes::rows_of;
+use crate::sizes::declared_rows;
 use crate::used::check_known;
 use query_text::Body;
 use std::alloc::Global;
@@ -85,7 +85,7 @@ impl Draft {
         if nodes.len() >= u32::MAX as usize {
             return Err(GraphFault::Memory);
         }
-        let rows = rows_of(nodes, body) as u32;
+        let rows = declared_rows(nodes, body) as u32;
         let cells = self.cells + u64::from(rows) * (columns.len() as u64 + 1);
         let node = node_of(alloc, nodes, line, body, columns)?;
         self.nodes.push(alloc, node, names)?;

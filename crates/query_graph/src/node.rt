@@ -2,7 +2,7 @@
 
 use crate::operator::Operator;
 use crate::parties::Parties;
-use query_text::Sequence;
+use listed::Listed;
 use words::{Column, Label};
 
 /// A node: its name, the line of its statement, its columns, how many rows it has at most, and what it
@@ -11,7 +11,7 @@ use words::{Column, Label};
 pub struct Node {
     pub name: Label,
     pub line: u32,
-    pub columns: Sequence<Column>,
+    pub columns: Listed<Column>,
     pub rows: u32,
     pub shape: Operator,
 }

@@ -2,14 +2,14 @@
 
 use crate::operand::{Aggregate, Item, Test};
 use crate::parties::Parties;
-use query_text::Sequence;
+use listed::Listed;
 
 /// The rows of a file of the owner. `trusted` has the parties that the text trusts with each column, and
 /// `release` those that it writes after `release`; where a part is missing, its set has no party.
 #[derive(Debug, PartialEq, Eq, Drop)]
 pub struct Relation {
     pub owner: u8,
-    pub trusted: Sequence<Parties>,
+    pub trusted: Listed<Parties>,
     pub release: Parties,
 }
 
@@ -17,7 +17,7 @@ pub struct Relation {
 #[derive(Debug, PartialEq, Eq, Drop)]
 pub struct Filter {
     pub source: u32,
-    pub tests: Sequence<Test>,
+    pub tests: Listed<Test>,
     pub at_most: Option<u32>,
     pub clear_at: Option<u8>,
 }
@@ -26,14 +26,14 @@ pub struct Filter {
 #[derive(Debug, PartialEq, Eq, Drop)]
 pub struct Select {
     pub source: u32,
-    pub items: Sequence<Item>,
+    pub items: Listed<Item>,
     pub clear_at: Option<u8>,
 }
 
 /// The rows of the sources, one source after the other.
 #[derive(Debug, PartialEq, Eq, Drop)]
 pub struct Concat {
-    pub sources: Sequence<u32>,
+    pub sources: Listed<u32>,
 }
 
 /// A row for each pair of rows with equal keys: the keys, the left's other columns, the right's other
@@ -42,7 +42,7 @@ pub struct Concat {
 pub struct Join {
     pub left: u32,
     pub right: u32,
-    pub keys: Sequence<(u32, u32)>,
+    pub keys: Listed<(u32, u32)>,
     pub at_most: Option<u32>,
     pub via: Option<u8>,
     pub clear_at: Option<u8>,
@@ -52,8 +52,8 @@ pub struct Join {
 #[derive(Debug, PartialEq, Eq, Drop)]
 pub struct Group {
     pub source: u32,
-    pub keys: Sequence<u32>,
-    pub aggregates: Sequence<Aggregate>,
+    pub keys: Listed<u32>,
+    pub aggregates: Listed<Aggregate>,
     pub parts_at_most: Option<u32>,
     pub at_most: Option<u32>,
     pub via: Option<u8>,

@@ -13,10 +13,11 @@ use crate::nodes::Nodes;
 use crate::numbers::{aggregates_of, items_of, number, numbers_of, tests_of};
 use crate::operator::{Concat, Distinct, Filter, Group, Join, Operator, Relation, Select};
 use crate::parties::Parties;
-use crate::sizes::rows_of;
+use crate::sizes::declared_rows;
 use crate::source::Source;
+use listed::Listed;
 use query_text::{
-    Body, Bytes, ColumnText, FilterText, GroupText, JoinText, RelationText, SelectText, Sequence,
+    Body, Bytes, ColumnText, FilterText, GroupText, JoinText, RelationText, SelectText,
 };
 use std::alloc::{AllocError, Global};
 use words::{Column, Label};
@@ -95,7 +96,7 @@ fn join_of(alloc: Global, nodes: &Nodes, join: &JoinText) -> Result<Operator, Al
 {
     let left = nodes.source(&join.left);
     let right = nodes.source(&join.right);
-    let keys = Sequence::from_vec(keys_of(alloc, &left, &right, join.keys.as_slice())?);
+    let keys = Listed::from_vec(keys_of(alloc, &left, &right, join.keys.as_slice())?);
     Ok(Operator::Join(Join {
         left: number_of_node(nodes, &join.left),
         right: number_of_node(nodes, &join.right),
@@ -114,9 +115,9 @@ fn group_of(alloc: Global, nodes: &Nodes, group: &GroupText) -> Result<Operator,
     ensures { IfOk result (λ made. made ≡ operator_of nodes.now (Body.Group group.now)) }
 {
     let source = nodes.source(&group.source);
-    let keys = Sequence::from_vec(numbers_of(alloc, &source, group.keys.as_slice())?);
+    let keys = Listed::from_vec(numbers_of(alloc, &source, group.keys.as_slice())?);
     let aggregates = aggregates_of(alloc, &source, group.aggregates.as_slice())?;
-    let aggregates = Sequence::from_vec(aggregates);
+    let aggregates = Listed::from_vec(aggregates);
     Ok(Operator::Group(Group {
         source: number_of_node(nodes, &group.source),
         keys,
@@ -135,7 +136,7 @@ fn filter_of(alloc: Global, nodes: &Nodes, filter: &FilterText) -> Result<Operat
     ensures { IfOk result (λ made. made ≡ operator_of nodes.now (Body.Filter filter.now)) }
 {
     let source = nodes.source(&filter.source);
-    let tests = Sequence::from_vec(tests_of(alloc, &source, filter.tests.as_slice())?);
+    let tests = Listed::from_vec(tests_of(alloc, &source, filter.tests.as_slice())?);
     Ok(Operator::Filter(Filter {
         source: number_of_node(nodes, &filter.source),
         tests,
@@ -150,7 +151,7 @@ fn select_of(alloc: Global, nodes: &Nodes, select: &SelectText) -> Result<Operat
     ensures { IfOk result (λ made. made ≡ operator_of nodes.now (Body.Select select.now)) }
 {
     let source = nodes.source(&select.source);
-    let items = Sequence::from_vec(items_of(alloc, &source, select.items.as_slice())?);
+    let items = Listed::from_vec(items_of(alloc, &source, select.items.as_slice())?);
     Ok(Operator::Select(Select {
         source: number_of_node(nodes, &select.source),
         items,
@@ -161,7 +162,7 @@ fn select_of(alloc: Global, nodes: &Nodes, select: &SelectText) -> Result<Operat
 fn relation_of(alloc: Global, relation: &RelationText) -> Result<Operator, AllocError>
     ensures { IfOk result (λ made. made ≡ operator_of [] (Body.Relation relation.now)) }
 {
-    let trusted = Sequence::from_vec(trusted_of(alloc, relation.columns.as_slice())?);
+    let trusted = Listed::from_vec(trusted_of(alloc, relation.columns.as_slice())?);
     Ok(Operator::Relation(Relation {
         owner: relation.owner,
         trusted,
@@ -182,7 +183,7 @@ pub(crate) fn operator_of(alloc: Global, nodes: &Nodes, body: &Body) -> Result<O
         Body::Select(s) => select_of(alloc, nodes, s),
         Body::Concat(c) => {
             let sources = numbers_of_nodes(alloc, nodes, c.sources.as_slice())?;
-            let sources = Sequence::from_vec(sources);
+            let sources = Listed::from_vec(sources);
             Ok(Operator::Concat(Concat { sources }))
         }
         Body::Join(j) => join_of(alloc, nodes, j),
@@ -193,7 +194,7 @@ pub(crate) fn operator_of(alloc: Global, nodes: &Nodes, body: &Body) -> Result<O
             clear_at: d.clear_at,
         })),
         Body::Output(_) => {
-            let sources = Sequence::new(alloc);
+            let sources = Listed::new(alloc);
             Ok(Operator::Concat(Concat { sources }))
         }
     }
@@ -216,8 +217,8 @@ pub(crate) fn node_of(
     Ok(Node {
         name: name_of(alloc, body)?,
         line,
-        columns: Sequence::from_vec(columns),
-        rows: rows_of(nodes, body) as u32,
+        columns: Listed::from_vec(columns),
+        rows: declared_rows(nodes, body) as u32,
         shape: operator_of(alloc, nodes, body)?,
     })
 }

@@ -5,7 +5,7 @@ ghost use Rattle.std.specs.Prelude.{◌≡◌, ◌+◌, ◌*◌, ◌≤◌, ◌&
 ghost use Rattle.std.specs.List.{list_all};
 ghost use Rattle.query_graph.specs.Names.{node_rows};
 ghost use Rattle.query_graph.specs.Columns.{columns_of};
-ghost use Rattle.query_graph.specs.Sizes.{bounded, bounded_parts, cell_limit, cells_of, column_limit, row_limit, sizes_fit, constant_fits, constants_fit, counts_fit, group_rows, is_bound, is_row_count, item_constants_fit, rows_of, test_constants_fit};
+ghost use Rattle.query_graph.specs.Sizes.{bounded, bounded_parts, cell_limit, cells_of, column_limit, row_limit, sizes_fit, constant_fits, constants_fit, counts_fit, group_rows, is_bound, is_row_count, item_constants_fit, declared_rows, test_constants_fit};
 
 use crate::nodes::Nodes;
 use query_text::{Body, Bytes, ItemText, OperandText, TestText};
@@ -83,8 +83,8 @@ fn sum_rows(nodes: &Nodes, names: &[Bytes]) -> u128
 }
 
 /// The declared rows of a statement's node.
-pub(crate) fn rows_of(nodes: &Nodes, body: &Body) -> u128
-    ensures { result ≡ rows_of nodes.now body.now }
+pub(crate) fn declared_rows(nodes: &Nodes, body: &Body) -> u128
+    ensures { result ≡ declared_rows nodes.now body.now }
 {
     match body {
         Body::Relation(r) => u128::from(r.rows),
@@ -114,7 +114,9 @@ pub(crate) fn sizes_fit(nodes: &Nodes, cells: u64, body: &Body, columns: &[Colum
     requires columns { columns.now ≡ columns_of nodes.now body.now }
     ensures { result ≡ sizes_fit nodes.now body.now }
 {
-    counts_fit(body) && constants_fit(body) && node_fits(cells, rows_of(nodes, body), columns.len())
+    counts_fit(body)
+        && constants_fit(body)
+        && node_fits(cells, declared_rows(nodes, body), columns.len())
 }
 
 // Whether a node of this size keeps the limits behind nodes of so many cells.

@@ -16,7 +16,6 @@ mod query;
 mod read;
 mod read_parts;
 mod read_statements;
-mod sequence;
 mod spell_parts;
 mod spell_statements;
 mod statement;
@@ -31,7 +30,6 @@ pub use parts::{AggregateText, ColumnText, ItemText, TestText};
 pub use print::print_query;
 pub use query::{Query, ReadFault};
 pub use read::read_query;
-pub use sequence::Sequence;
 pub use statement::{
     Body, ConcatText, DistinctText, FilterText, GroupText, JoinText, OutputText, RelationText,
     SelectText, Statement,

@@ -6,8 +6,8 @@ ghost use Rattle.query_text.specs.Answers.{Gives};
 
 use crate::bytes::Bytes;
 use crate::parser::Parser;
-use crate::sequence::Sequence;
 use crate::stop::Stop;
+use listed::Listed;
 use query_tokens::{Keyword, Sign};
 use std::alloc::Global;
 
@@ -45,7 +45,7 @@ impl<'a> Parser<'a> {
         &mut self,
         alloc: Global,
         separator: Separator,
-    ) -> Result<Sequence<P>, Stop>
+    ) -> Result<Listed<P>, Stop>
         ensures { Gives (λ xs. xs) result self.new (several (separates separator) P.read self.old) }
     {
         let mut parts = Vec::new(alloc);
@@ -53,12 +53,12 @@ impl<'a> Parser<'a> {
         // A list has no more parts than there are tokens.
         for _part in 0..self.left() {
             if !self.at_separator(separator) {
-                return Ok(Sequence::from_vec(parts));
+                return Ok(Listed::from_vec(parts));
             }
             self.skip();
             parts.push(P::read(alloc, self)?)?;
         }
-        Ok(Sequence::from_vec(parts))
+        Ok(Listed::from_vec(parts))
     }
 
     /// One to three parties in rising order.
@@ -88,7 +88,7 @@ impl<'a> Parser<'a> {
     }
 
     /// Two to eight names.
-    pub(crate) fn sources(&mut self, alloc: Global) -> Result<Sequence<Bytes>, Stop>
+    pub(crate) fn sources(&mut self, alloc: Global) -> Result<Listed<Bytes>, Stop>
         ensures { Gives (λ ns. ns) result self.new (concat_at self.old) }
     {
         let mut sources = Vec::new(alloc);
@@ -96,10 +96,10 @@ impl<'a> Parser<'a> {
         sources.push(self.name(alloc)?)?;
         for _source in 0..6usize {
             if !self.at_name() {
-                return Ok(Sequence::from_vec(sources));
+                return Ok(Listed::from_vec(sources));
             }
             sources.push(self.name(alloc)?)?;
         }
-        Ok(Sequence::from_vec(sources))
+        Ok(Listed::from_vec(sources))
     }
 }

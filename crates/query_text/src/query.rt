@@ -1,5 +1,5 @@
-use crate::sequence::Sequence;
 use crate::statement::Statement;
+use listed::Listed;
 use std::alloc::{AllocError, AllocFailed};
 use std::marker::Model;
 use thiserror::Error;
@@ -8,7 +8,7 @@ use thiserror::Error;
 /// which a text can hold.
 #[derive(Debug, Drop)]
 pub struct Query {
-    pub statements: Sequence<Statement>,
+    pub statements: Listed<Statement>,
 }
 
 impl Model for Query {

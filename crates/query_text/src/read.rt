@@ -8,9 +8,9 @@ ghost use Rattle.query_text.specs.declared.query.ReadFault.{ReadFault};
 
 use crate::parser::Parser;
 use crate::query::{Query, ReadFault};
-use crate::sequence::Sequence;
 use crate::statement::Statement;
 use crate::stop::Stop;
+use listed::Listed;
 use query_tokens::{Placed, scan_line, split_line, tokens_are_real};
 use std::alloc::{AllocError, Global};
 
@@ -75,7 +75,7 @@ fn add(statements: &mut Vec<Statement>, statement: Option<Statement>) -> Result<
 }
 
 // The statements of a text's lines.
-fn read_lines(alloc: Global, text: &[u8]) -> Result<Sequence<Statement>, ReadFault>
+fn read_lines(alloc: Global, text: &[u8]) -> Result<Listed<Statement>, ReadFault>
     requires { length text.now ≤ 65536 }
     ensures { GivesText (λ s. s) result (read_lines 1 0 (lines_of text.now)) }
 {
@@ -89,7 +89,7 @@ fn read_lines(alloc: Global, text: &[u8]) -> Result<Sequence<Statement>, ReadFau
         add(&mut statements, statement)?;
         match behind {
             Some(more) => rest = more,
-            None => return Ok(Sequence::from_vec(statements)),
+            None => return Ok(Listed::from_vec(statements)),
         }
         number += 1;
     }

@@ -6,18 +6,18 @@ ghost use Rattle.query_text.specs.Answers.{Gives, GivesWhole};
 use crate::bytes::Bytes;
 use crate::lists::{Part, Separator};
 use crate::parser::Parser;
-use crate::sequence::Sequence;
 use crate::statement::{
     Body, ConcatText, DistinctText, FilterText, GroupText, JoinText, OutputText, RelationText,
     SelectText,
 };
 use crate::stop::Stop;
+use listed::Listed;
 use query_tokens::{Keyword, Sign};
 use std::alloc::Global;
 
 impl<'a> Parser<'a> {
     // ( X {, X} )
-    fn in_parens<P: Part + Drop>(&mut self, alloc: Global) -> Result<Sequence<P>, Stop>
+    fn in_parens<P: Part + Drop>(&mut self, alloc: Global) -> Result<Listed<P>, Stop>
         ensures { Gives (λ xs. xs) result self.new (in_parens P.read self.old) }
     {
         self.sign(Sign::LeftParen)?;
@@ -27,11 +27,11 @@ impl<'a> Parser<'a> {
     }
 
     // [by C {, C}]
-    fn keys(&mut self, alloc: Global) -> Result<Sequence<Bytes>, Stop>
+    fn keys(&mut self, alloc: Global) -> Result<Listed<Bytes>, Stop>
         ensures { Gives (λ ks. ks) result self.new (keys_at self.old) }
     {
         if !self.at_keyword(Keyword::By) {
-            return Ok(Sequence::new(alloc));
+            return Ok(Listed::new(alloc));
         }
         self.skip();
         self.several(alloc, Separator::Comma)

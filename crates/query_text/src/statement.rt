@@ -1,6 +1,6 @@
 use crate::bytes::Bytes;
 use crate::parts::{AggregateText, ColumnText, ItemText, TestText};
-use crate::sequence::Sequence;
+use listed::Listed;
 
 /// `relation N of P rows K ( COLUMN {, COLUMN} ) [release PS]`. `release` has the numbers of the
 /// parties in rising order, and is empty where that part is missing.
@@ -9,7 +9,7 @@ pub struct RelationText {
     pub name: Bytes,
     pub owner: u8,
     pub rows: u64,
-    pub columns: Sequence<ColumnText>,
+    pub columns: Listed<ColumnText>,
     pub release: Bytes,
 }
 
@@ -18,7 +18,7 @@ pub struct RelationText {
 pub struct FilterText {
     pub name: Bytes,
     pub source: Bytes,
-    pub tests: Sequence<TestText>,
+    pub tests: Listed<TestText>,
     pub at_most: Option<u64>,
     pub clear_at: Option<u8>,
 }
@@ -28,7 +28,7 @@ pub struct FilterText {
 pub struct SelectText {
     pub name: Bytes,
     pub source: Bytes,
-    pub items: Sequence<ItemText>,
+    pub items: Listed<ItemText>,
     pub clear_at: Option<u8>,
 }
 
@@ -36,7 +36,7 @@ pub struct SelectText {
 #[derive(Debug, PartialEq, Eq, Drop)]
 pub struct ConcatText {
     pub name: Bytes,
-    pub sources: Sequence<Bytes>,
+    pub sources: Listed<Bytes>,
 }
 
 /// `N = join S S on C {, C} [at most K] [via P | clear at P]`.
@@ -45,7 +45,7 @@ pub struct JoinText {
     pub name: Bytes,
     pub left: Bytes,
     pub right: Bytes,
-    pub keys: Sequence<Bytes>,
+    pub keys: Listed<Bytes>,
     pub at_most: Option<u64>,
     pub via: Option<u8>,
     pub clear_at: Option<u8>,
@@ -57,8 +57,8 @@ pub struct JoinText {
 pub struct GroupText {
     pub name: Bytes,
     pub source: Bytes,
-    pub keys: Sequence<Bytes>,
-    pub aggregates: Sequence<AggregateText>,
+    pub keys: Listed<Bytes>,
+    pub aggregates: Listed<AggregateText>,
     pub parts_at_most: Option<u64>,
     pub at_most: Option<u64>,
     pub via: Option<u8>,

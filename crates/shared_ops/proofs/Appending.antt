@@ -13,7 +13,7 @@ use Rattle.wires.specs.Environment.{Environment, all_words, words}
 use Rattle.wires.specs.Growth.{AreMade, Grows, HasLanes, IsMade, lanes_of, total_lanes}
 use Rattle.wires.specs.declared.wire.Wire.{Wire}
 use Rattle.padded.specs.Laws.{RowsOfAppended}
-use Rattle.padded.specs.Table.{AreBits, IsTable, Table, appended_column, column_at, rows_in, rows_of}
+use Rattle.padded.specs.Table.{AreBits, IsTable, Table, appended_column, column_at, rows_in, table_rows}
 use Rattle.shared_ops.specs.declared.joint.Joint.{Joint}
 use Rattle.shared_ops.proofs.Elements.{map_agree, range_below}
 use Rattle.shared_ops.proofs.Growing.{wide_on}
@@ -79,7 +79,7 @@ column_is v (t ∷ tables) k all =
     let here : words v (column_wire k t) ≡ column_at (column_words v t) k = sym (get_or-map (words v) t.columns.items k t.valid [] (All-head (λ u. k < length u.columns.items) t tables all)) in
     λ i. here i ++ column_is v tables k (All-tail (λ u. k < length u.columns.items) t tables all) i
 
-rows_are : (v : Environment) (tables : List Joint) → flat_map rows_of (map (table_of v) tables) ≡ flat_map (joint_rows v) tables
+rows_are : (v : Environment) (tables : List Joint) → flat_map table_rows (map (table_of v) tables) ≡ flat_map (joint_rows v) tables
 rows_are v [] = refl
 rows_are v (t ∷ tables) = ap (λ l. joint_rows v t ++ l) (rows_are v tables)
 

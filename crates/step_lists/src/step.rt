@@ -1,7 +1,7 @@
 //! Shapes of slots, and the nine kinds of step.
 #![tactic(auto)]
 
-use lanes::{Listed, Numbers, Words};
+use listed::{Listed, Numbers, Words};
 
 /// What a slot of a party holds.
 #[derive(Clone, Copy, Debug, PartialEq, Eq)]

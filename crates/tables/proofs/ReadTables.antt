@@ -94,30 +94,30 @@ row_words : TextsAreWords → (line : ℕ) (kinds : List Kind) (fields : List (L
 row_words texts line kinds fields true row is = words_below texts line 0 kinds fields row is
 row_words texts line kinds fields false row is = cc
 
-rows_words : TextsAreWords → (line : ℕ) (kinds : List Kind) (records : List (List (List ℕ))) (rows : List (List ℕ)) → file.rows_of line kinds records ≡ Ok rows → All (λ row. All (λ word. word < 2 ^ 64) row) rows
+rows_words : TextsAreWords → (line : ℕ) (kinds : List Kind) (records : List (List (List ℕ))) (rows : List (List ℕ)) → file.record_rows line kinds records ≡ Ok rows → All (λ row. All (λ word. word < 2 ^ 64) row) rows
 rows_words texts line kinds [] rows is =
     let same : [] ≡ rows = cc in
     subst (All (λ row. All (λ word. word < 2 ^ 64) row)) same (All-nil (λ row. All (λ word. word < 2 ^ 64) row))
 rows_words texts line kinds (first ∷ rest) rows is =
-    each_step (λ row. All (λ word. word < 2 ^ 64) row) (file.row_of line kinds first) (file.rows_of (line + 1) kinds rest) rows
+    each_step (λ row. All (λ word. word < 2 ^ 64) row) (file.row_of line kinds first) (file.record_rows (line + 1) kinds rest) rows
     (λ row read. row_words texts line kinds first (length first == length kinds) row read) (λ more here. rows_words texts (line + 1) kinds rest more here) is
 
-rows_wide : (line : ℕ) (kinds : List Kind) (records : List (List (List ℕ))) (rows : List (List ℕ)) → file.rows_of line kinds records ≡ Ok rows → All (λ row. length row ≡ length kinds) rows
+rows_wide : (line : ℕ) (kinds : List Kind) (records : List (List (List ℕ))) (rows : List (List ℕ)) → file.record_rows line kinds records ≡ Ok rows → All (λ row. length row ≡ length kinds) rows
 rows_wide line kinds [] rows is =
     let same : [] ≡ rows = cc in
     subst (All (λ row. length row ≡ length kinds)) same (All-nil (λ row. length row ≡ length kinds))
 rows_wide line kinds (first ∷ rest) rows is =
-    each_step (λ row. length row ≡ length kinds) (file.row_of line kinds first) (file.rows_of (line + 1) kinds rest) rows (row_count line kinds first) (λ more here. rows_wide (line + 1) kinds rest more here) is
+    each_step (λ row. length row ≡ length kinds) (file.row_of line kinds first) (file.record_rows (line + 1) kinds rest) rows (row_count line kinds first) (λ more here. rows_wide (line + 1) kinds rest more here) is
 
-rows_count : (line : ℕ) (kinds : List Kind) (records : List (List (List ℕ))) (rows : List (List ℕ)) → file.rows_of line kinds records ≡ Ok rows → length rows ≡ length records
+rows_count : (line : ℕ) (kinds : List Kind) (records : List (List (List ℕ))) (rows : List (List ℕ)) → file.record_rows line kinds records ≡ Ok rows → length rows ≡ length records
 rows_count line kinds [] rows is =
     let same : [] ≡ rows = cc in
     sym (ap length same)
 rows_count line kinds (first ∷ rest) rows is =
-    count_step (file.row_of line kinds first) (file.rows_of (line + 1) kinds rest) (length rest) rows (λ more here. rows_count (line + 1) kinds rest more here) is
+    count_step (file.row_of line kinds first) (file.record_rows (line + 1) kinds rest) (length rest) rows (λ more here. rows_count (line + 1) kinds rest more here) is
 
 under_step : TextsAreWords → (columns : List Column) (declared : ℕ) (rest : List (List (List ℕ))) (over : Bool) (rows : Result (List (List ℕ)) TableFault) (t : Content) → nat_lt declared (length rest) ≡ over
-    → file.rows_of 2 (kinds_of columns) rest ≡ rows
+    → file.record_rows 2 (kinds_of columns) rest ≡ rows
     → and_then (if over then Err (file.rows_fault declared (length rest)) else Ok (tt {0})) (λ _. map_ok (λ rows. record { columns = columns; rows = rows }) rows) ≡ Ok t
     → FitsDeclaration columns declared t
 under_step texts columns declared rest true rows t far read is = cc
@@ -134,7 +134,7 @@ header_step : TextsAreWords → (columns : List Column) (declared : ℕ) (rest :
     → (if named then file.table_under columns declared rest else Err file.header_fault) ≡ Ok t → FitsDeclaration columns declared t
 header_step texts columns declared rest false t is = cc
 header_step texts columns declared rest true t is =
-    under_step texts columns declared rest (nat_lt declared (length rest)) (file.rows_of 2 (kinds_of columns) rest) t refl refl is
+    under_step texts columns declared rest (nat_lt declared (length rest)) (file.record_rows 2 (kinds_of columns) rest) t refl refl is
 
 records_fit : TextsAreWords → (columns : List Column) (declared : ℕ) (records : List (List (List ℕ))) (t : Content) → file.table_of columns declared records ≡ Ok t
     → FitsDeclaration columns declared t

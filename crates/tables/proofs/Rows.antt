@@ -6,7 +6,7 @@ use Rattle.words.specs.declared.column.Column.{Column}
 use Rattle.words.specs.declared.column.Kind.{Kind}
 use Rattle.tables.specs.Outcome.{Gives, and_then, map_ok}
 use Rattle.tables.specs.Content.{Content, with_row}
-use Rattle.tables.specs.File.{at_place, fields_fault, row_of, rows_of, table_under, within, words_of}
+use Rattle.tables.specs.File.{at_place, fields_fault, row_of, record_rows, table_under, within, words_of}
 use Rattle.tables.specs.Records.{BytesReader, IsReading, TakesRecord, unread}
 use Rattle.tables.specs.declared.fault.TableFault.{TableFault}
 use Rattle.tables.proofs.Fields.{map_ok-push}
@@ -17,7 +17,7 @@ pub record RowsSoFar (columns : List Column) (behind : List (List (List ℕ))) (
   pub reading : IsReading reader
   pub same_columns : table.columns ≡ columns
   pub count : length behind ≡ i + length (unread reader)
-  pub rows : rows_of 2 (kinds_of columns) behind ≡ map_ok (λ rows. table.rows ++ rows) (rows_of (2 + i) (kinds_of columns) (unread reader))
+  pub rows : record_rows 2 (kinds_of columns) behind ≡ map_ok (λ rows. table.rows ++ rows) (record_rows (2 + i) (kinds_of columns) (unread reader))
 
 -- no row before an answer leaves it
 map_ok-nil : {E X : Type 0} (r : Result (List X) E) → r ≡ map_ok (λ rows. [] ++ rows) r
@@ -32,8 +32,8 @@ so_far-start columns reader table reading is =
 
 -- a record that is a row, and the records behind it
 rows_step : (line : ℕ) (kinds : List Kind) (fields : List (List ℕ)) (rest : List (List (List ℕ))) (row : List ℕ) → row_of line kinds fields ≡ Ok row
-    → rows_of line kinds (fields ∷ rest) ≡ map_ok (λ rows. row ∷ rows) (rows_of (line + 1) kinds rest)
-rows_step line kinds fields rest row is = ap (λ first. and_then first (λ words. map_ok (λ rows. words ∷ rows) (rows_of (line + 1) kinds rest))) is
+    → record_rows line kinds (fields ∷ rest) ≡ map_ok (λ rows. row ∷ rows) (record_rows (line + 1) kinds rest)
+rows_step line kinds fields rest row is = ap (λ first. and_then first (λ words. map_ok (λ rows. words ∷ rows) (record_rows (line + 1) kinds rest))) is
 
 -- one record more
 pub so_far-more : (columns : List Column) (behind : List (List (List ℕ))) (old new : BytesReader) (table : Content) (i : ℕ) (fields : List (List ℕ)) (row : List ℕ)
@@ -47,10 +47,10 @@ so_far-more columns behind old new table i fields row before takes is =
       count = omega (arith, before.count, ap length takes.taken);
       rows =
           before.rows
-          ∙ ap (λ left. map_ok (λ rows. table.rows ++ rows) (rows_of (2 + i) (kinds_of columns) left)) takes.taken
+          ∙ ap (λ left. map_ok (λ rows. table.rows ++ rows) (record_rows (2 + i) (kinds_of columns) left)) takes.taken
           ∙ ap (map_ok (λ rows. table.rows ++ rows)) (rows_step (2 + i) (kinds_of columns) fields (unread new) row is)
           ∙ map_ok-push table.rows row _
-          ∙ ap (λ n. map_ok (λ rows. (table.rows ++ row ∷ []) ++ rows) (rows_of n (kinds_of columns) (unread new))) line;
+          ∙ ap (λ n. map_ok (λ rows. (table.rows ++ row ∷ []) ++ rows) (record_rows n (kinds_of columns) (unread new))) line;
     }
 
 whole : (columns : List Column) (table : Content) → table.columns ≡ columns → (let t : Content = record { columns = columns; rows = table.rows ++ [] } in t) ≡ table
@@ -60,7 +60,7 @@ whole columns table same =
 
 -- the table's rows where the count of records fits
 counted : (columns : List Column) (declared : ℕ) (behind : List (List (List ℕ))) → within declared (length behind) ≡ Ok tt
-    → table_under columns declared behind ≡ map_ok (λ rows. record { columns = columns; rows = rows }) (rows_of 2 (kinds_of columns) behind)
+    → table_under columns declared behind ≡ map_ok (λ rows. record { columns = columns; rows = rows }) (record_rows 2 (kinds_of columns) behind)
 counted columns declared behind fits = rw fits refl
 
 -- every record was read
@@ -70,7 +70,7 @@ pub so_far-end : (columns : List Column) (behind : List (List (List ℕ))) (read
 so_far-end columns behind reader table i declared before none within =
     counted columns declared behind (fits_within declared (length behind) (omega (arith, before.count, ap length none)))
     ∙ ap (map_ok (λ rows. record { columns = columns; rows = rows }))
-    (before.rows ∙ ap (λ left. map_ok (λ rows. table.rows ++ rows) (rows_of (2 + i) (kinds_of columns) left)) none)
+    (before.rows ∙ ap (λ left. map_ok (λ rows. table.rows ++ rows) (record_rows (2 + i) (kinds_of columns) left)) none)
     ∙ ap Ok (whole columns table before.same_columns)
 
 -- as many as were declared were read, and no more are left
@@ -114,12 +114,12 @@ pub so_far-fails : {V : Type 0} (view : V → List ℕ) (columns : List Column) 
     → Gives view (row_of (2 + i) (kinds_of columns) fields) (Err fault)
     → Gives {A = Content} {B = Content} (λ t. t) (table_under columns declared behind) (Err fault)
 so_far-fails view columns behind old new table i declared fields fault before takes fits given =
-    let first = λ (r : Result (List ℕ) TableFault). and_then r (λ words. map_ok (λ rows. words ∷ rows) (rows_of (2 + i + 1) (kinds_of columns) (unread new))) in
+    let first = λ (r : Result (List ℕ) TableFault). and_then r (λ words. map_ok (λ rows. words ∷ rows) (record_rows (2 + i + 1) (kinds_of columns) (unread new))) in
     let content = λ (rows : List (List ℕ)). let t : Content = record { columns = columns; rows = rows } in t in
     gives_along view (λ (t : Content). t) (row_of (2 + i) (kinds_of columns) fields) (table_under columns declared behind) fault
     (λ is. counted columns declared behind (ap (within declared) (so_far-count columns behind old new table i fields before takes) ∙ fits)
     ∙ ap (map_ok content) (before.rows
-    ∙ ap (λ left. map_ok (λ rows. table.rows ++ rows) (rows_of (2 + i) (kinds_of columns) left)) takes.taken
+    ∙ ap (λ left. map_ok (λ rows. table.rows ++ rows) (record_rows (2 + i) (kinds_of columns) left)) takes.taken
     ∙ ap (λ r. map_ok (λ rows. table.rows ++ rows) (first r)) is)) given
 
 -- what an answer's parts are, where it is Ok

@@ -55,10 +55,10 @@ abbrev pub row_of : ℕ → List Kind → List (List ℕ) → Result (List ℕ) 
 row_of line kinds fields = if length fields == length kinds then words_of line 0 kinds fields else Err (fields_fault line)
 
 -- the rows of records, the first of which has this number
-abbrev pub rows_of : ℕ → List Kind → List (List (List ℕ)) → Result (List (List ℕ)) TableFault
-rows_of line kinds [] = Ok []
-rows_of line kinds (first ∷ rest) =
-    and_then (row_of line kinds first) (λ row. map_ok (λ rows. row ∷ rows) (rows_of (line + 1) kinds rest))
+abbrev pub record_rows : ℕ → List Kind → List (List (List ℕ)) → Result (List (List ℕ)) TableFault
+record_rows line kinds [] = Ok []
+record_rows line kinds (first ∷ rest) =
+    and_then (row_of line kinds first) (λ row. map_ok (λ rows. row ∷ rows) (record_rows (line + 1) kinds rest))
 
 -- so many records are no more than were declared
 abbrev pub within : ℕ → ℕ → Result (Unit {0}) TableFault
@@ -67,7 +67,7 @@ within declared found = if nat_lt declared found then Err (rows_fault declared f
 -- the table of the records behind a header: their number counts before what they hold
 abbrev pub table_under : List Column → ℕ → List (List (List ℕ)) → Result Content TableFault
 table_under columns declared rest =
-    and_then (within declared (length rest)) (λ _. map_ok (λ rows. record { columns = columns; rows = rows }) (rows_of 2 (kinds_of columns) rest))
+    and_then (within declared (length rest)) (λ _. map_ok (λ rows. record { columns = columns; rows = rows }) (record_rows 2 (kinds_of columns) rest))
 
 -- the table of a file's records, the first of which is to be the header
 abbrev pub table_of : List Column → ℕ → List (List (List ℕ)) → Result Content TableFault

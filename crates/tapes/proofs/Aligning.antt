@@ -7,7 +7,8 @@ use Rattle.tapes.proofs.Picks.{length-picked, get_or-picked}
 use Rattle.bags.specs.Bag.{row_eq, count_of}
 use Rattle.std.specs.Cmp.Lexicographic.{bytes_decides}
 use Rattle.tapes.specs.Order.{composed, inverse_of, place_of}
-use Rattle.tapes.specs.Align.{rows_of, row_at, occurrence, rows_applied, Aligns, SortsPlaces}
+use Rattle.listed.specs.Lists.{owned}
+use Rattle.tapes.specs.Align.{row_at, occurrence, rows_applied, Aligns, SortsPlaces}
 use Rattle.tapes.proofs.OrderLemmas.{length-inverse, get_or-inverse, IsOrder-inverse, IsOrder-composed, place_of-within, place_of-is}
 
 pub length-rows_applied : (o : List ℕ) (rows : List (List ℕ)) → length (rows_applied o rows) ≡ length o
@@ -103,14 +104,14 @@ aligned_applied x y d a =
 -- ---- rows as the code reads them
 
 -- the row that was read stands at its place
-pub row_from_read : (rows : List (Vec ℕ Global)) (p : ℕ) (row : Vec ℕ Global) → p < length rows → row ≡ get_or rows p row → row.items ≡ row_at (rows_of rows) p
+pub row_from_read : (rows : List (Vec ℕ Global)) (p : ℕ) (row : Vec ℕ Global) → p < length rows → row ≡ get_or rows p row → row.items ≡ row_at (owned rows) p
 row_from_read rows p row h e =
     ap (λ (r : Vec ℕ Global). r.items) e ∙ sym (get_or-map (λ (r : Vec ℕ Global). r.items) rows p row [] h)
 
 pub row_where_applied : (o : List ℕ) (rows : List (Vec ℕ Global)) (i : ℕ) (row : Vec ℕ Global) → i < length o → get_or o i 0 < length rows
-    → row ≡ get_or rows (get_or o i 0) row → row.items ≡ row_at (rows_applied o (rows_of rows)) i
+    → row ≡ get_or rows (get_or o i 0) row → row.items ≡ row_at (rows_applied o (owned rows)) i
 row_where_applied o rows i row h w e =
-    row_from_read rows (get_or o i 0) row w e ∙ sym (row_at-applied o (rows_of rows) i h)
+    row_from_read rows (get_or o i 0) row w e ∙ sym (row_at-applied o (owned rows) i h)
 
 -- one more row that is equal
 pub equal_more : (a b : List (List ℕ)) (i : ℕ) (r s : List ℕ) → i < length a → i < length b → take i a ≡ take i b → r ≡ row_at a i → s ≡ row_at b i → r ≡ s

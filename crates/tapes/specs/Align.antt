@@ -5,10 +5,6 @@ use Rattle.bags.specs.Bag.{count_of}
 use Rattle.bags.specs.Sorted.{sorted}
 use Rattle.tapes.specs.Order.{IsOrder}
 
--- rows as lists of words
-abbrev pub rows_of : List (Vec ℕ Global) → List (List ℕ)
-rows_of rows = map (λ row. row.items) rows
-
 -- the row at a place, empty where there is none
 abbrev pub row_at : List (List ℕ) → ℕ → List ℕ
 row_at rows k = slice_index_or rows k []

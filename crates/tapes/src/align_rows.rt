@@ -1,7 +1,8 @@
 ghost use Rattle.std.specs.Prelude.{◌≡◌, ◌↔◌, ◌<◌, ◌^◌, IsTrue, IfOk, OnOk, Err, ℕ, length, slice_index};
 ghost use Rattle.bags.specs.Bag.{SameBag};
 ghost use Rattle.tapes.specs.declared.align_rows.AlignFault.TheVariants.{Memory};
-ghost use Rattle.tapes.specs.Align.{Aligns, rows_of, Numbered, SortsPlaces, rows_applied};
+ghost use Rattle.listed.specs.Lists.{owned};
+ghost use Rattle.tapes.specs.Align.{Aligns, Numbered, SortsPlaces, rows_applied};
 
 use crate::order::Order;
 use crate::pairs::numbers_of;
@@ -37,9 +38,9 @@ pub fn align(
 ) -> Result<Order, AlignFault>
     requires source { length source.now.items < 2 ^ 32 }
     requires target { length target.now.items < 2 ^ 32 }
-    ensures aligned { IfOk result (λ order. Aligns (rows_of source.now.items) (rows_of target.now.items) order) }
-    ensures same_bag { OnOk result (SameBag (rows_of source.now.items) (rows_of target.now.items)) }
-    ensures not_same_bag { result ≡ Err AlignFault.NotSameBag → ¬ SameBag (rows_of source.now.items) (rows_of target.now.items) }
+    ensures aligned { IfOk result (λ order. Aligns (owned source.now.items) (owned target.now.items) order) }
+    ensures same_bag { OnOk result (SameBag (owned source.now.items) (owned target.now.items)) }
+    ensures not_same_bag { result ≡ Err AlignFault.NotSameBag → ¬ SameBag (owned source.now.items) (owned target.now.items) }
 {
     // A law: equal sorted lists are the same bag.
     bags::laws::sorted_tells_bags();
@@ -56,7 +57,7 @@ pub fn align(
 // The places of rows, sorted by their rows and then by themselves.
 fn sort_places(alloc: Global, rows: &Vec<Vec<u64>>) -> Result<Order, AllocError>
     requires { length rows.now.items < 2 ^ 32 }
-    ensures { IfOk result (λ order. SortsPlaces (rows_of rows.now.items) order) }
+    ensures { IfOk result (λ order. SortsPlaces (owned rows.now.items) order) }
 {
     // A law: what sorting leaves is the sorted list.
     bags::laws::sorted_is_unique();
@@ -72,7 +73,7 @@ fn number_rows<'a>(
     rows: &'a Vec<Vec<u64>>,
 ) -> Result<Vec<(&'a [u64], u32)>, AllocError>
     requires { length rows.now.items < 2 ^ 32 }
-    ensures { IfOk result (λ keyed. Numbered (λ pair. pair.0.now) (λ pair. pair.1) 0 (rows_of rows.now.items) keyed.items) }
+    ensures { IfOk result (λ keyed. Numbered (λ pair. pair.0.now) (λ pair. pair.1) 0 (owned rows.now.items) keyed.items) }
 {
     let mut keyed = Vec::with_capacity(alloc, rows.len())?;
     for i in 0..rows.len() {
@@ -90,7 +91,7 @@ fn have_equal_rows(
 ) -> bool
     requires first { (k : ℕ) → k < length first.now → slice_index first.now k < length source.now.items }
     requires second { (k : ℕ) → k < length second.now → slice_index second.now k < length target.now.items }
-    ensures { IsTrue result ↔ (rows_applied first.now (rows_of source.now.items) ≡ rows_applied second.now (rows_of target.now.items)) }
+    ensures { IsTrue result ↔ (rows_applied first.now (owned source.now.items) ≡ rows_applied second.now (owned target.now.items)) }
 {
     if first.len() != second.len() {
         return false;

@@ -2,7 +2,7 @@
 
 use crate::lists::{List, list_of, numbers, push, rows, run_of, slots_of};
 use clear_tasks::ClearTask;
-use lanes::Listed;
+use listed::Listed;
 use std::test::Fail;
 use step_lists::{Shape, Step};
 

@@ -2,7 +2,7 @@
 
 use clear_tasks::ClearTask;
 use joint_machine::{JointRun, joint_run};
-use lanes::{Listed, Numbers};
+use listed::{Listed, Numbers};
 use std::test::Fail;
 use step_lists::{ListFault, Slots, Step, StepList, list_needs};
 use tapes::make_tapes;

@@ -5,7 +5,7 @@ use crate::joint_machine_tests::{has_links, has_slot, lacks_slot, run};
 use crate::made::{lin, list_of, reveal, share, slots, steer, tell, work};
 use crate::rule_tests::{List, numbers, push};
 use joint_machine::JointRun;
-use lanes::Listed;
+use listed::Listed;
 use std::test::Fail;
 use step_lists::{LinOp, Shape, Slots, Step, list_needs};
 use tapes::make_tapes;

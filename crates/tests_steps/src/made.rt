@@ -2,7 +2,7 @@
 
 use crate::TestTask;
 use crate::rule_tests::{List, numbers, push};
-use lanes::Listed;
+use listed::Listed;
 use std::alloc::{AllocError, Global};
 use std::test::Fail;
 use step_lists::{LinOp, Shape, Slots, Step, StepList, list_needs};

@@ -1,7 +1,7 @@
 //! For each rule of a well-formed list one step that breaks it and one that just keeps it.
 
 use crate::TestTask;
-use lanes::{Listed, Numbers};
+use listed::{Listed, Numbers};
 use std::test::Fail;
 use step_lists::{LinOp, ListFault, Shape, Step, StepList};
 

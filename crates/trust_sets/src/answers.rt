@@ -4,21 +4,21 @@
 ghost use Rattle.std.specs.Prelude.{◌≡◌, ◌<◌, ◌↔◌, true, length, take, IsTrue, IfOk};
 ghost use Rattle.bags.specs.Bag.{SameBag};
 ghost use Rattle.query_graph.specs.Parties.{has};
-ghost use Rattle.plain_operators.specs.Rows.{lent};
+ghost use Rattle.listed.specs.Lists.{lent};
 ghost use Rattle.plain_meaning.specs.Fits.{IsWorldOf};
 ghost use Rattle.plain_meaning.specs.Meaning.{meanings};
 ghost use Rattle.plain_meaning.specs.Plain.{rows_in, rows_of_tables};
 ghost use Rattle.trust_sets.specs.Differs.{FirstAnswer, IsWithinBounds};
 
 use crate::cut_rows::same_bag;
+use listed::Listed;
 use plain_meaning::{World, plain};
 use query_graph::{Graph, Output};
-use query_text::Sequence;
 use std::alloc::{AllocError, Global};
 use tables::Table;
 
 // The tables of all nodes.
-fn all_tables(alloc: Global, graph: &Graph, world: &World) -> Result<Sequence<Table>, AllocError>
+fn all_tables(alloc: Global, graph: &Graph, world: &World) -> Result<Listed<Table>, AllocError>
     requires world { IsWorldOf graph.now.nodes (rows_of_tables world.now) }
     requires within { IsWithinBounds graph.now.nodes (rows_of_tables world.now) }
     ensures count { IfOk result (λ tables. length tables ≡ length graph.now.nodes) }

@@ -5,7 +5,7 @@ ghost use Rattle.std.specs.Prelude.{◌≡◌, ◌↔◌, map, slice_index, IsTr
 ghost use Rattle.bags.specs.Bag.{SameBag};
 ghost use Rattle.plain_operators.specs.Columns.{cut};
 ghost use Rattle.plain_operators.specs.Cuts.{CutsAgree};
-ghost use Rattle.plain_operators.specs.Rows.{lent, owned};
+ghost use Rattle.listed.specs.Lists.{lent, owned};
 ghost use Rattle.trust_sets.specs.Agreement as agreement;
 ghost use Rattle.trust_sets.specs.Known.{known_at};
 
@@ -13,6 +13,7 @@ use crate::known::Known;
 use crate::trust::Trust;
 use bags::laws::sorted_tells_bags;
 use bags::sort_rows;
+use listed::lend;
 use std::alloc::{AllocError, Global};
 use tables::Table;
 
@@ -70,17 +71,6 @@ fn cut_rows(alloc: Global, columns: &[usize], table: &Table) -> Result<Vec<Vec<u
         rows.push(cut_row(alloc, columns, table.row(index))?)?;
     }
     Ok(rows)
-}
-
-// The rows, lent.
-fn lend(alloc: Global, rows: &[Vec<u64>]) -> Result<Vec<&[u64]>, AllocError>
-    ensures { IfOk result (λ made. lent made.items ≡ owned rows.now) }
-{
-    let mut made = Vec::new(alloc);
-    for row in rows {
-        made.push(row.as_slice())?;
-    }
-    Ok(made)
 }
 
 // Whether both are the same bag of rows.

@@ -5,14 +5,14 @@ ghost use Rattle.std.specs.Prelude.{◌≡◌};
 ghost use Rattle.std.specs.List.{fold};
 ghost use Rattle.trust_sets.specs.Known as known;
 
+use listed::Listed;
 use query_graph::{Aggregate, Item, Operand, Parties, Test};
-use query_text::Sequence;
 
 /// Who may know the rows of a node, and who may know each of its columns.
 #[derive(Debug, Drop)]
 pub struct Known {
     pub rows: Parties,
-    pub columns: Sequence<Parties>,
+    pub columns: Listed<Parties>,
 }
 
 impl Known {

@@ -11,9 +11,9 @@ use crate::columns::{
     add_aggregates, add_others, item_sets, met, narrowed, same_for_each, with_owner,
 };
 use crate::known::Known;
+use listed::Listed;
 use plain_operators::{left_keys, right_keys};
 use query_graph::{Group, Parties, Relation, Select, Test};
-use query_text::Sequence;
 use std::alloc::{AllocError, Global};
 
 fn known(rows: Parties, columns: Vec<Parties>) -> Known
@@ -21,7 +21,7 @@ fn known(rows: Parties, columns: Vec<Parties>) -> Known
 {
     Known {
         rows,
-        columns: Sequence::from_vec(columns),
+        columns: Listed::from_vec(columns),
     }
 }
 

@@ -17,7 +17,7 @@ kept_rows-requires c =
     let now = λ (row : Bor (List ℕ)). row.now in
     let tests = c.deref.result.now in
     let w = width_at (widths_of c.args.earlier.now) c.args.filter.now.source in
-    let e : tests ≡ map test_of c.args.filter.now.tests = c.deref.ensures.value ∙ c.in_ok-tests.ensures ∙ ap (map test_of) c.as_slice.ensures in
+    let e : tests ≡ map test_of c.args.filter.now.tests = c.deref.ensures.value ∙ c.in_ok-tests.ensures ∙ ap (map test_of) c.as_slice.ensures.value in
     let fits : All (IsTestOf w) (map test_of c.args.filter.now.tests) = subst (λ n. All (IsTestOf n) (map test_of c.args.filter.now.tests)) (sym c.requires.same) c.requires.tests in
     fits_rows (λ n. All (IsTestOf n) tests) now c.deref-2.result.now (rows_of (map (λ t. t.rows) c.args.earlier.now) c.args.filter.now.source) w
     (ap (map now) c.deref-2.ensures.value ∙ c.in_ok-rows.ensures.rows) c.source_rows.ensures.wide (All-same (IsTestOf w) tests (map test_of c.args.filter.now.tests) e fits)

@@ -18,14 +18,14 @@ group_of_rows-requires-clause-of_keys c =
     let keys = c.as_slice-2.result.now in
     let w = width_at (widths_of c.args.earlier.now) c.args.group.now.source in
     fits_rows (HasColumns keys) now c.deref-2.result.now (rows_of (map (λ t. t.rows) c.args.earlier.now) c.args.group.now.source) w
-    (ap (map now) c.deref-2.ensures.value ∙ c.in_ok-rows.ensures.rows) c.source_rows.ensures.wide (subst (λ k. HasColumns k w) (sym c.as_slice-2.ensures) c.requires.keys)
+    (ap (map now) c.deref-2.ensures.value ∙ c.in_ok-rows.ensures.rows) c.source_rows.ensures.wide (subst (λ k. HasColumns k w) (sym c.as_slice-2.ensures.value) c.requires.keys)
 
 pub group_of_rows-requires-clause-of_aggregates : goal.group_of_rows-requires-clause-of_aggregates
 group_of_rows-requires-clause-of_aggregates c =
     let now = λ (row : Bor (List ℕ)). row.now in
     let aggregates = c.deref.result.now in
     let w = width_at (widths_of c.args.earlier.now) c.args.group.now.source in
-    let e : aggregates ≡ map aggregate_of c.args.group.now.aggregates = c.deref.ensures.value ∙ c.in_ok-aggregates.ensures ∙ ap (map aggregate_of) c.as_slice.ensures in
+    let e : aggregates ≡ map aggregate_of c.args.group.now.aggregates = c.deref.ensures.value ∙ c.in_ok-aggregates.ensures ∙ ap (map aggregate_of) c.as_slice.ensures.value in
     fits_rows (λ n. All (IsAggregateOf n) aggregates) now c.deref-2.result.now (rows_of (map (λ t. t.rows) c.args.earlier.now) c.args.group.now.source) w
     (ap (map now) c.deref-2.ensures.value ∙ c.in_ok-rows.ensures.rows) c.source_rows.ensures.wide (All-same (IsAggregateOf w) aggregates (map aggregate_of c.args.group.now.aggregates) e c.requires.aggregates)
 
@@ -36,9 +36,9 @@ table_of_made-requires c =
     let keys = c.as_slice-2.result.now in
     let aggregates = c.deref.result.now in
     let rows = map now c.deref-2.result.now in
-    let e : aggregates ≡ map aggregate_of c.args.group.now.aggregates = c.deref.ensures.value ∙ c.in_ok-aggregates.ensures ∙ ap (map aggregate_of) c.as_slice.ensures in
+    let e : aggregates ≡ map aggregate_of c.args.group.now.aggregates = c.deref.ensures.value ∙ c.in_ok-aggregates.ensures ∙ ap (map aggregate_of) c.as_slice.ensures.value in
     let many : length aggregates ≡ length c.args.group.now.aggregates = ap length e ∙ length-map c.args.group.now.aggregates aggregate_of in
-    let long : length keys + length aggregates ≡ length c.args.columns.items = (λ i. length (c.as_slice-2.ensures i) + many i) ∙ c.requires.same in
+    let long : length keys + length aggregates ≡ length c.args.columns.items = (λ i. length (c.as_slice-2.ensures.value i) + many i) ∙ c.requires.same in
     let limit = limit_of c.args.group.now.at_most in
     let all = group_of_rows keys aggregates rows in
     let w = length keys + length aggregates in

@@ -15,7 +15,7 @@ joined_rows-requires-clause-of_left c =
     let keys = c.as_slice.result.now in
     let w = width_at (widths_of c.args.earlier.now) c.args.join.now.left in
     fits_rows (HasColumns (left_keys keys)) now c.deref.result.now (rows_of (map (λ t. t.rows) c.args.earlier.now) c.args.join.now.left) w
-    (ap (map now) c.deref.ensures.value ∙ c.in_ok-lefts.ensures.rows) c.source_rows.ensures.wide (subst (λ k. HasColumns (left_keys k) w) (sym c.as_slice.ensures) c.requires.left_keys)
+    (ap (map now) c.deref.ensures.value ∙ c.in_ok-lefts.ensures.rows) c.source_rows.ensures.wide (subst (λ k. HasColumns (left_keys k) w) (sym c.as_slice.ensures.value) c.requires.left_keys)
 
 pub joined_rows-requires-clause-of_right : goal.joined_rows-requires-clause-of_right
 joined_rows-requires-clause-of_right c =
@@ -23,7 +23,7 @@ joined_rows-requires-clause-of_right c =
     let keys = c.as_slice.result.now in
     let w = width_at (widths_of c.args.earlier.now) c.args.join.now.right in
     fits_rows (HasColumns (right_keys keys)) now c.deref-2.result.now (rows_of (map (λ t. t.rows) c.args.earlier.now) c.args.join.now.right) w
-    (ap (map now) c.deref-2.ensures.value ∙ c.in_ok-rights.ensures.rows) c.source_rows-2.ensures.wide (subst (λ k. HasColumns (right_keys k) w) (sym c.as_slice.ensures) c.requires.right_keys)
+    (ap (map now) c.deref-2.ensures.value ∙ c.in_ok-rights.ensures.rows) c.source_rows-2.ensures.wide (subst (λ k. HasColumns (right_keys k) w) (sym c.as_slice.ensures.value) c.requires.right_keys)
 
 pub table_of_made-requires : goal.table_of_made-requires
 table_of_made-requires c =
@@ -41,4 +41,4 @@ table_of_made-requires c =
     let all = joined_rows keys lefts rights in
     let limit = c.limit_of-limit.result in
     let wide : AllWide w (first_of limit all) = All-first_of limit (λ row. length row ≡ w) all (c.operators_keep_widths.ensures.joined keys a b lefts rights wide_left wide_right) in
-    wide_rows listed c.deref-3.result.now (first_of limit all) w (length c.args.columns.items) (ap (map listed) c.deref-3.ensures.value ∙ c.in_ok-made.ensures) wide (ap (λ k. joined_width k a b) c.as_slice.ensures ∙ c.requires.same)
+    wide_rows listed c.deref-3.result.now (first_of limit all) w (length c.args.columns.items) (ap (map listed) c.deref-3.ensures.value ∙ c.in_ok-made.ensures) wide (ap (λ k. joined_width k a b) c.as_slice.ensures.value ∙ c.requires.same)

@@ -16,7 +16,7 @@ rows_of_items-requires c =
     let now = λ (row : Bor (List ℕ)). row.now in
     let items = c.deref.result.now in
     let w = width_at (widths_of c.args.earlier.now) c.args.select.now.source in
-    let e : items ≡ map item_of c.args.select.now.items = c.deref.ensures.value ∙ c.in_ok-items.ensures ∙ ap (map item_of) c.as_slice.ensures in
+    let e : items ≡ map item_of c.args.select.now.items = c.deref.ensures.value ∙ c.in_ok-items.ensures ∙ ap (map item_of) c.as_slice.ensures.value in
     fits_rows (λ n. All (IsItemOf n) items) now c.deref-2.result.now (rows_of (map (λ t. t.rows) c.args.earlier.now) c.args.select.now.source) w
     (ap (map now) c.deref-2.ensures.value ∙ c.in_ok-rows.ensures.rows) c.source_rows.ensures.wide (All-same (IsItemOf w) items (map item_of c.args.select.now.items) e c.requires.items)
 
@@ -27,6 +27,6 @@ table_of_made-requires c =
     let items = c.deref.result.now in
     let words = map item_word items in
     let rows = map now c.deref-2.result.now in
-    let e : items ≡ map item_of c.args.select.now.items = c.deref.ensures.value ∙ c.in_ok-items.ensures ∙ ap (map item_of) c.as_slice.ensures in
+    let e : items ≡ map item_of c.args.select.now.items = c.deref.ensures.value ∙ c.in_ok-items.ensures ∙ ap (map item_of) c.as_slice.ensures.value in
     let long : length words ≡ length c.args.columns.items = length-map items item_word ∙ ap length e ∙ length-map c.args.select.now.items item_of ∙ c.requires.same in
     wide_rows listed c.deref-3.result.now (rows_of_items words rows) (length words) (length c.args.columns.items) (ap (map listed) c.deref-3.ensures.value ∙ c.in_ok-made.ensures) (rows_of_items-AllWide words rows) long

@@ -2,7 +2,7 @@ use Rattle.std.proofs.Common.{List, ℕ, [], ◌++◌, Bor, take, get_or, sym, a
 use Rattle.std.specs.List.{flat_map}
 use Rattle.std.proofs.lemmas.List.{flat_map_more, map_more}
 use Rattle.plain_operators.specs.Columns.{cut}
-use Rattle.plain_operators.specs.Rows.{lent}
+use Rattle.listed.specs.Lists.{lent}
 use Rattle.plain_operators.proofs.cut.cut_rows.Goals as goal
 
 pub loop-row-preserved : goal.loop-row-preserved

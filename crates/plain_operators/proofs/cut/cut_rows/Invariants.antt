@@ -1,7 +1,7 @@
 use Rattle.std.proofs.Common.{◌≡◌, take}
 use Rattle.std.specs.List.{flat_map}
 use Rattle.plain_operators.specs.Columns.{cut}
-use Rattle.plain_operators.specs.Rows.{lent}
+use Rattle.listed.specs.Lists.{lent}
 use Rattle.plain_operators.proofs.cut.cut_rows.Given as goal
 
 abbrev pub invariant-loop-row : goal.invariant-loop-row

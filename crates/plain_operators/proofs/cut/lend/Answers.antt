@@ -3,7 +3,7 @@ use Rattle.std.specs.List.{flat_map}
 use Rattle.std.proofs.Math.Seq.{drop-append_seam, drop-cons, take-append_seam}
 use Rattle.std.proofs.lemmas.List.{length-map, map_more, map_push}
 use Rattle.plain_operators.specs.Columns.{cut, word_at}
-use Rattle.plain_operators.specs.Rows.{lent}
+use Rattle.listed.specs.Lists.{lent}
 use Rattle.plain_operators.proofs.cut.lend.Goals as goal
 
 -- the words of the rows from a place on are that row's and then those behind

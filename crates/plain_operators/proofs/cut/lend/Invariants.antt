@@ -1,7 +1,7 @@
 use Rattle.std.proofs.Common.{◌≡◌, map, take, drop}
 use Rattle.std.specs.List.{flat_map}
 use Rattle.plain_operators.specs.Columns.{cut}
-use Rattle.plain_operators.specs.Rows.{lent}
+use Rattle.listed.specs.Lists.{lent}
 use Rattle.plain_operators.proofs.cut.lend.Given as goal
 
 -- the words that are left are those of the rows that are left

@@ -5,7 +5,7 @@ use Rattle.std.proofs.lemmas.List.{append-nil, length-map, map-append, map_more,
 use Rattle.bags.specs.Bag.{row_eq}
 use Rattle.plain_operators.specs.Limits.{first_of, is_reached}
 use Rattle.plain_operators.specs.Operators.{distinct_rows}
-use Rattle.plain_operators.specs.Rows.{lent}
+use Rattle.listed.specs.Lists.{lent}
 use Rattle.plain_operators.proofs.DistinctRows.{WalksDistinct, among, distinct-append, walks_more}
 use Rattle.plain_operators.proofs.Limits.{full, room, vec_length}
 use Rattle.plain_operators.proofs.distinct.distinct_rows.Goals as goal

@@ -2,7 +2,7 @@ use Rattle.std.proofs.Common.{◌≡◌, take}
 use Rattle.std.specs.HashSet.{contains_by}
 use Rattle.bags.specs.Bag.{row_eq}
 use Rattle.plain_operators.specs.Limits.{first_of}
-use Rattle.plain_operators.specs.Rows.{lent}
+use Rattle.listed.specs.Lists.{lent}
 use Rattle.plain_operators.proofs.DistinctRows.{WalksDistinct}
 use Rattle.plain_operators.proofs.distinct.distinct_rows.Given as goal
 

@@ -5,7 +5,7 @@ use Rattle.std.proofs.lemmas.List.Elements.{All-same}
 use Rattle.plain_operators.specs.Columns.{cut}
 use Rattle.plain_operators.specs.Limits.{first_of}
 use Rattle.plain_operators.specs.Places.{ArePlaces, grouped_places, row_of_places}
-use Rattle.plain_operators.specs.Rows.{lent, owned}
+use Rattle.listed.specs.Lists.{lent, owned}
 use Rattle.plain_operators.proofs.GroupPlaces.{All-unmap, group_by_places, groups_are_places}
 use Rattle.plain_operators.proofs.Limits.{All-first_of, first_of-map}
 use Rattle.plain_operators.proofs.Lists.{map_map}

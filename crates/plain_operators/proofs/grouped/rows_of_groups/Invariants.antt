@@ -1,6 +1,6 @@
 use Rattle.std.proofs.Common.{◌≡◌, map, take}
 use Rattle.plain_operators.specs.Places.{row_of_places}
-use Rattle.plain_operators.specs.Rows.{lent, owned}
+use Rattle.listed.specs.Lists.{lent, owned}
 use Rattle.plain_operators.proofs.grouped.rows_of_groups.Given as goal
 
 abbrev pub invariant-loop-places : goal.invariant-loop-places

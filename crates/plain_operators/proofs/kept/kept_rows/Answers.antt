@@ -5,7 +5,7 @@ use Rattle.std.proofs.lemmas.List.Elements.{filter-append}
 use Rattle.plain_operators.specs.Items.{holds_of}
 use Rattle.plain_operators.specs.Limits.{first_of, is_reached}
 use Rattle.plain_operators.specs.Operators.{kept_rows}
-use Rattle.plain_operators.specs.Rows.{lent}
+use Rattle.listed.specs.Lists.{lent}
 use Rattle.plain_operators.proofs.Limits.{full, room, vec_length}
 use Rattle.plain_operators.proofs.Steps.{kept_more}
 use Rattle.plain_operators.proofs.kept.kept_rows.Goals as goal

@@ -2,7 +2,7 @@ use Rattle.std.proofs.Common.{◌≡◌, map, take}
 use Rattle.plain_operators.specs.Items.{holds_of}
 use Rattle.plain_operators.specs.Limits.{first_of}
 use Rattle.plain_operators.specs.Operators.{kept_rows}
-use Rattle.plain_operators.specs.Rows.{lent}
+use Rattle.listed.specs.Lists.{lent}
 use Rattle.plain_operators.proofs.kept.kept_rows.Given as goal
 
 abbrev pub invariant-loop-row : goal.invariant-loop-row

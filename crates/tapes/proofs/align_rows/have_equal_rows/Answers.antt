@@ -1,5 +1,6 @@
 use Rattle.std.proofs.Common.{◌<◌, length, sym, ◌∙◌, ap, arith}
-use Rattle.tapes.specs.Align.{rows_of, row_at, rows_applied}
+use Rattle.listed.specs.Lists.{owned}
+use Rattle.tapes.specs.Align.{row_at, rows_applied}
 use Rattle.tapes.proofs.Aligning.{length-rows_applied, row_where_applied, equal_more, equal_rows, different_rows}
 use Rattle.tapes.proofs.align_rows.have_equal_rows.Goals as goal
 
@@ -10,9 +11,9 @@ loop-i-preserved c =
     let i = c.loop-i.i in
     let in_first : i < length first = c.loop-i-test.true in
     let in_second : i < length second = omega arith in
-    equal_more (rows_applied first (rows_of c.args.source.now.items)) (rows_applied second (rows_of c.args.target.now.items)) i c.as_slice-row.result.now
-    c.as_slice-other.result.now (omega (arith, length-rows_applied first (rows_of c.args.source.now.items)))
-    (omega (arith, length-rows_applied second (rows_of c.args.target.now.items))) c.loop-i.invariant
+    equal_more (rows_applied first (owned c.args.source.now.items)) (rows_applied second (owned c.args.target.now.items)) i c.as_slice-row.result.now
+    c.as_slice-other.result.now (omega (arith, length-rows_applied first (owned c.args.source.now.items)))
+    (omega (arith, length-rows_applied second (owned c.args.target.now.items))) c.loop-i.invariant
     (c.as_slice-row.ensures.value ∙ row_where_applied first c.args.source.now.items i c.index.result.now in_first (c.requires.first i in_first) c.index.ensures)
     (c.as_slice-other.ensures.value
     ∙ row_where_applied second c.args.target.now.items i c.index-in-loop-i.result.now in_second (c.requires.second i in_second) c.index-in-loop-i.ensures)

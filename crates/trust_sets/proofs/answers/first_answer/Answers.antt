@@ -27,7 +27,7 @@ returns-then-not-agrees c =
     let below = subst (λ l. (get_or l place no_output).node < length graph.nodes) (sym same) (c.outputs.ensures.graph.outputs place no_output (subst (λ l. place < length l) same inside)).node in
     let rows = λ (tables : List table.Content). map (λ t. t.rows) tables in
     let agree = place_agrees graph c.args.party (rows_of_tables c.args.world.now) (rows_of_tables c.args.other.now) c.as_slice.result.now c.as_slice-in-loop-output.result.now place (get_or items place no_output) is below
-    (ap rows c.as_slice.ensures ∙ c.in_ok-tables.ensures.rows) (ap rows c.as_slice-in-loop-output.ensures ∙ c.in_ok-others.ensures.rows) in
+    (ap rows c.as_slice.ensures.value ∙ c.in_ok-tables.ensures.rows) (ap rows c.as_slice-in-loop-output.ensures.value ∙ c.in_ok-others.ensures.rows) in
     record {
       place = place;
       output = get_or items place no_output;
@@ -47,7 +47,7 @@ loop-output-preserved c =
     let below = subst (λ l. (get_or l place no_output).node < length graph.nodes) (sym same) (c.outputs.ensures.graph.outputs place no_output (subst (λ l. place < length l) same inside)).node in
     let rows = λ (tables : List table.Content). map (λ t. t.rows) tables in
     let agree = place_agrees graph c.args.party (rows_of_tables c.args.world.now) (rows_of_tables c.args.other.now) c.as_slice.result.now c.as_slice-in-loop-output.result.now place (get_or items place no_output) is below
-    (ap rows c.as_slice.ensures ∙ c.in_ok-tables.ensures.rows) (ap rows c.as_slice-in-loop-output.ensures ∙ c.in_ok-others.ensures.rows) in
+    (ap rows c.as_slice.ensures.value ∙ c.in_ok-tables.ensures.rows) (ap rows c.as_slice-in-loop-output.ensures.value ∙ c.in_ok-others.ensures.rows) in
     below_more (PlaceAgrees graph c.args.party (rows_of_tables c.args.world.now) (rows_of_tables c.args.other.now)) place c.loop-output.invariant (agree.0 (c.in_ok-agrees.ensures.0 c.if-not-agrees.false))
 
 pub returns : goal.returns

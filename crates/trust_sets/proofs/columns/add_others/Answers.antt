@@ -16,7 +16,7 @@ loop-column-preserved c =
     let sets = c.loop-column.sets.items in
     let left : c.if-not-is_key.sets.items ≡ sets ++ cond (not c.is_key.result) one [] = elim c.if-not-is_key.branch [
       | then-not-is_key+in_ok-push w ↦
-          let met = w.meet.ensures ∙ ap (λ l. common_parties c.args.rows (get_or l column no_party)) c.as_slice-set-items.ensures in
+          let met = w.meet.ensures ∙ ap (λ l. common_parties c.args.rows (get_or l column no_party)) c.as_slice-set-items.ensures.value in
           ap (λ v. v.items) w.sets-is ∙ w.in_ok-push.ensures.items ∙ ap (λ s. sets ++ s ∷ []) met ∙ ap (λ b. sets ++ cond b one []) (sym (ap not w.if-not-is_key.true))
       | else-not-is_key w ↦ ap (λ v. v.items) w.sets-is ∙ sym (append-nil sets) ∙ ap (λ b. sets ++ cond b one []) (sym (ap not w.if-not-is_key.false))
     ] in

@@ -10,13 +10,13 @@ pub overflow_mul-cells : goal.overflow_mul-cells
 overflow_mul-cells c =
     let width : c.len-2.result ≡ length c.in_ok-columns.columns.items = grind arith in
     (cells_fit c.self.inside.nodes c.args.body.now c.self.inside.cells c.from.result c.len-2.result c.self.invariant.counted c.in_ok-names.ensures.sizes
-    (c.from.ensures ∙ c.rows_of-rows.ensures) (width ∙ ap length c.in_ok-columns.ensures)).0
+    (c.from.ensures ∙ c.declared_rows-rows.ensures) (width ∙ ap length c.in_ok-columns.ensures)).0
 
 pub overflow_add-cells-2 : goal.overflow_add-cells-2
 overflow_add-cells-2 c =
     let width : c.len-2.result ≡ length c.in_ok-columns.columns.items = grind arith in
     (cells_fit c.self.inside.nodes c.args.body.now c.self.inside.cells c.from.result c.len-2.result c.self.invariant.counted c.in_ok-names.ensures.sizes
-    (c.from.ensures ∙ c.rows_of-rows.ensures) (width ∙ ap length c.in_ok-columns.ensures)).1
+    (c.from.ensures ∙ c.declared_rows-rows.ensures) (width ∙ ap length c.in_ok-columns.ensures)).1
 
 pub invariant_of-self-2 : goal.invariant_of-self-2
 invariant_of-self-2 c =
@@ -25,7 +25,7 @@ invariant_of-self-2 c =
     let passes = no_fault (content_of c.self.inside) c.args.line c.args.body.now c.in_ok-check_known.ensures (rw outputs at c.in_ok-names.ensures.rules) in
     built_node c.self.inside _ c.in_ok-node.node c.from.result c.len-2.result c.args.line c.args.body.now c.self.invariant c.requires.fits passes
     (sym c.in_default.ensures) c.in_ok-names.ensures.sizes (grind arith) c.in_ok-node.ensures
-    c.in_ok-push-2.ensures.added refl refl (c.from.ensures ∙ c.rows_of-rows.ensures) (width ∙ ap length c.in_ok-columns.ensures)
+    c.in_ok-push-2.ensures.added refl refl (c.from.ensures ∙ c.declared_rows-rows.ensures) (width ∙ ap length c.in_ok-columns.ensures)
 
 pub invariant_of-self-in-Some : goal.invariant_of-self-in-Some
 invariant_of-self-in-Some c =

@@ -1,5 +1,5 @@
 use Rattle.std.proofs.Common.{◌≡◌, map, take}
-use Rattle.padded.proofs.lists.lend.Given as goal
+use Rattle.listed.proofs.lent.lend.Given as goal
 
 abbrev pub invariant-loop-list : goal.invariant-loop-list
 invariant-loop-list l = map (λ list. list.now) l.made.items ≡ map (λ list. list.items) (take l.list-index l.lists)

@@ -1,5 +1,6 @@
 ghost use Rattle.std.specs.Prelude.{◌≡◌, ◌↔◌, [], ◌∷◌, ◌++◌, ◌<◌, length, slice_get, slice_set, IsTrue, IfOk, IfErr, OnOk, OnErr};
 ghost use Rattle.std.specs.Option.{option_copied};
+ghost use Rattle.std.specs.Cmp.Lexicographic.{pointwise, lists_per, lists_equiv};
 
 use std::alloc::{AllocError, AllocFailed, Global};
 use std::marker::Model;
@@ -126,4 +127,18 @@ impl<T: Copy> Listed<T> {
     {
         Listed::from_slice(alloc, self.items.as_slice())
     }
+}
+
+impl<T: PartialEq> PartialEq for Listed<T> {
+    ghost eq = { pointwise T.eq };
+
+    ghost laws = { lists_per T.laws };
+
+    fn eq(&self, other: &Listed<T>) -> bool {
+        self.as_slice() == other.as_slice()
+    }
+}
+
+impl<T: Eq> Eq for Listed<T> {
+    ghost laws = { lists_equiv T.Eq.laws };
 }
