@@ -1,10 +1,10 @@
 -- The columns and the rows of pairs.
 use Rattle.std.proofs.Common.{◌≡◌, ℕ, zero, suc, ◌+◌, ◌*◌, ◌/◌, ◌%◌, ◌<◌, ◌≤◌, Bool, true, false, not, cond, nat_eq, List, [], ◌∷◌, ◌++◌, map, length, get_or, refl, sym, ap, ◌∙◌, arith}
 use Rattle.std.specs.Prelude.{◌==◌}
-use Rattle.std.specs.List.{filter, list_any, range_with_len}
+use Rattle.std.specs.List.{list_any, range_with_len}
 use Rattle.std.proofs.Math.Nat.{mul-le-mul_left}
 use Rattle.std.proofs.lemmas.List.{append_assoc, length-map, map-append}
-use Rattle.std.proofs.lemmas.List.Elements.{All-append, All-filter, filter-append}
+use Rattle.std.proofs.lemmas.List.Elements.{All-append, All-filter}
 use Rattle.std.proofs.lemmas.List.FromFn.{fill_by_all, get_or-map-range_with_len, length-range_with_len}
 use Rattle.lanes.specs.Items.{LaneItems}
 use Rattle.lanes.specs.Lanes.{picked}
@@ -16,7 +16,7 @@ use Rattle.plain_operators.specs.Operators.{have_equal_keys, joined_row, left_ke
 use Rattle.plain_operators.specs.Within.{HasColumns}
 use Rattle.tapes.specs.RowLaws.{columns_applied, row_across}
 use Rattle.shared_ops.specs.Pairs.{columns_of_pairs, left_numbers, left_places, match_words, right_numbers, right_places, rows_match}
-use Rattle.shared_ops.proofs.Elements.{map_agree, map_map, range_below, range_more}
+use Rattle.shared_ops.proofs.Elements.{map_agree, map_map, range_below}
 use Rattle.shared_ops.proofs.Matching.{at_column, left_count, right_count}
 
 -- ---- the numbers of columns
@@ -113,11 +113,6 @@ is_joined items places keys lefts rights =
 
 pub join_at_most : (pairs keys : ℕ) → pairs * (7 * keys + 1) ≤ pairs * (7 * keys + 2)
 join_at_most pairs keys = mul-le-mul_left pairs (omega arith)
-
-pub others_more : (keys : List ℕ) (column : ℕ) → other_columns keys (column + 1) ≡ other_columns keys column ++ cond (not (list_any (λ key. key == column) keys)) (column ∷ []) []
-others_more keys column =
-    let test = λ (c : ℕ). not (list_any (λ key. key == c) keys) in
-    ap (filter test) (range_more column) ∙ filter-append test (range_with_len 0 column) (column ∷ [])
 
 -- ---- flags are bits
 

@@ -88,7 +88,7 @@ fn joined_columns<W: Wires>(
 fn columns_at<W: Wires>(
     wires: &mut W,
     table: &Joint,
-    numbers: &[usize],
+    numbers: &[u32],
     places: &[u32],
 ) -> Result<Vec<Wire>, AllocError>
     requires joint { IsJoint (W.shape wires.old) table.now }
@@ -103,7 +103,7 @@ fn columns_at<W: Wires>(
 {
     let mut made = Vec::new(*table.columns.allocator());
     for at in 0..numbers.len() {
-        let column = gathered(wires, table.columns[numbers[at]], places)?;
+        let column = gathered(wires, table.columns[numbers[at] as usize], places)?;
         made.push(column)?;
     }
     Ok(made)
