@@ -5,3 +5,4 @@ pub mod Pairs
 pub mod Moves
 pub mod Zeros
 pub mod Steps
+pub mod SortedPlaces

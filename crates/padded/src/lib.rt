@@ -10,5 +10,7 @@
 
 pub mod laws;
 mod table;
+mod told;
 
-pub use table::{pad_rows, sorted_rows, valid_rows};
+pub use table::{pad_rows, valid_rows};
+pub use told::sorted_rows;

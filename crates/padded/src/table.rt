@@ -1,13 +1,11 @@
 //! The rows of a padded table, and the padded table of rows.
 
-ghost use Rattle.std.specs.Prelude.{◌≡◌, length, slice_index, nat_lt, if◌then◌else◌, IfOk};
+ghost use Rattle.std.specs.Prelude.{◌≡◌, slice_index, nat_lt, if◌then◌else◌, IfOk};
 ghost use Rattle.tapes.specs.Align.{row_at};
 ghost use Rattle.tapes.specs.RowLaws.{row_across};
 ghost use Rattle.listed.specs.Lists.{lent, owned};
-ghost use Rattle.padded.specs.Table.{pad, padded_column, rows_in, told, valid_up_to};
+ghost use Rattle.padded.specs.Table.{pad, padded_column, rows_in, valid_up_to};
 
-use bags::sort_rows;
-use listed::lend;
 use std::alloc::{AllocError, Global};
 
 /// The valid rows of a padded table, in the order of their places. A row is valid where its valid word is 1; a word that
@@ -86,7 +84,7 @@ fn word_of(rows: &[&[u64]], place: usize, column: usize) -> u64
 }
 
 // The word of this number, 0 where there is none.
-fn word_in(words: &[u64], number: usize) -> u64
+pub(crate) fn word_in(words: &[u64], number: usize) -> u64
     ensures { result ≡ slice_index words.now number }
 {
     match words.get(number) {
@@ -96,7 +94,7 @@ fn word_in(words: &[u64], number: usize) -> u64
 }
 
 // 1 for each of so many rows, and 0 behind them.
-fn valid_words(alloc: Global, rows: usize, count: usize) -> Result<Vec<u64>, AllocError>
+pub(crate) fn valid_words(alloc: Global, rows: usize, count: usize) -> Result<Vec<u64>, AllocError>
     ensures { IfOk result (λ words. words.items ≡ valid_up_to rows count) }
 {
     let mut words = Vec::with_capacity(alloc, count)?;
@@ -110,20 +108,4 @@ fn valid_word(place: usize, rows: usize) -> u64
     ensures { result ≡ (if nat_lt place rows then 1 else 0) }
 {
     if place < rows { 1 } else { 0 }
-}
-
-/// The table that is told: the valid rows of a padded table in the order of rows, at the first of its places, and zeros
-/// behind them. It depends on the bag of the rows and on the table's size alone.
-pub fn sorted_rows(
-    alloc: Global,
-    columns: &[Vec<u64>],
-    valid: &[u64],
-) -> Result<Vec<Vec<u64>>, AllocError>
-    ensures { IfOk result (λ table. owned table.items ≡ told (length columns.now) (length valid.now) (rows_in (owned columns.now) valid.now)) }
-{
-    let rows = valid_rows(alloc, columns, valid)?;
-    let mut sorted = lend(alloc, rows.as_slice())?;
-    sort_rows(&mut sorted);
-    let table = pad_rows(alloc, sorted.as_slice(), columns.len(), valid.len())?;
-    Ok(table)
 }
