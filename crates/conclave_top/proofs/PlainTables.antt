@@ -11,7 +11,7 @@ use Rattle.words.specs.declared.column.Column.{Column}
 use Rattle.words.specs.declared.column.Kind.{Kind}
 use Rattle.query_graph.specs.declared.node.Node.{Node}
 use Rattle.query_graph.specs.declared.operator.Operator.{Operator}
-use Rattle.query_graph.specs.declared.operator.Operator.TheVariants as operators
+use Rattle.query_graph.specs.Observers.{at_most_of, parts_at_most_of}
 use Rattle.tables.specs.Content as table
 use Rattle.tables.specs.File.{ReadTablesFit, table_in}
 use Rattle.tables.specs.Outcome.{and_then, map_ok}
@@ -72,18 +72,12 @@ not_written : {A : Type 0} (o : Option A) → is_written o ≡ false → o ≡ N
 not_written None is = refl
 not_written (Some x) is = cc
 
-or_right : (a b : Bool) → (a || b) ≡ false → b ≡ false
-or_right true b is = cc
-or_right false b is = is
+or_left : (a b : Bool) → (a || b) ≡ false → a ≡ false
+or_left true b is = cc
+or_left false b is = refl
 
-no_bound : (shape : Operator) → is_bounded shape ≡ false → bound_of shape ≡ None
-no_bound (operators.Relation r) is = refl
-no_bound (operators.Filter f) is = not_written f.at_most is
-no_bound (operators.Select s) is = refl
-no_bound (operators.Concat c) is = refl
-no_bound (operators.Join j) is = not_written j.at_most is
-no_bound (operators.Group g) is = not_written g.at_most (or_right (is_written g.parts_at_most) (is_written g.at_most) is)
-no_bound (operators.Distinct d) is = not_written d.at_most is
+no_bound : (shape : Operator) → is_bounded shape ≡ false → at_most_of shape ≡ None
+no_bound shape is = not_written (at_most_of shape) (or_left (is_written (at_most_of shape)) (is_written (parts_at_most_of shape)) is)
 
 -- without a bound the tables end with the nodes
 all_nodes : (nodes : List Node) (rows : List (List (List ℕ))) (count : ℕ) (over : Option ℕ) → first_bound nodes ≡ None → Ends nodes rows count over → count ≡ length nodes

@@ -37,11 +37,5 @@ pub(crate) fn first_bound(nodes: &[Node]) -> Option<u32>
 fn is_bounded(shape: &Operator) -> bool
     ensures { result ≡ is_bounded shape.now }
 {
-    match shape {
-        Operator::Filter(filter) => filter.at_most.is_some(),
-        Operator::Join(join) => join.at_most.is_some(),
-        Operator::Group(group) => group.parts_at_most.is_some() || group.at_most.is_some(),
-        Operator::Distinct(distinct) => distinct.at_most.is_some(),
-        Operator::Relation(_) | Operator::Select(_) | Operator::Concat(_) => false,
-    }
+    shape.at_most().is_some() || shape.parts_at_most().is_some()
 }
