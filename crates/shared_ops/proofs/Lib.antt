@@ -12,6 +12,8 @@ pub mod Items
 pub mod Joining
 pub mod Lanes
 pub mod Matching
+pub mod NodeLaws
+pub mod NodeTables
 pub mod OneBehindOther
 pub mod Passing
 pub mod Spending

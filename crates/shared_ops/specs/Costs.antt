@@ -1,5 +1,5 @@
 -- The most AND words of each shared operator.
-use Rattle.std.specs.Prelude.{ℕ, ◌+◌, ◌*◌, List, [], ◌∷◌, length, map, sum}
+use Rattle.std.specs.Prelude.{ℕ, ◌+◌, ◌*◌, List, [], ◌∷◌, length, map, slice_index, sum}
 use Rattle.plain_operators.specs.declared.aggregate.Aggregate.{Aggregate}
 use Rattle.plain_operators.specs.declared.item.Comparison.{Comparison}
 use Rattle.plain_operators.specs.declared.item.Comparison.TheVariants as comparisons
@@ -8,6 +8,7 @@ use Rattle.plain_operators.specs.declared.item.Item.TheVariants.{Plain, Computed
 use Rattle.plain_operators.specs.declared.item.Operation.{Operation}
 use Rattle.plain_operators.specs.declared.item.Operation.TheVariants as operations
 use Rattle.plain_operators.specs.declared.item.Test.{Test}
+use Rattle.plain_operators.specs.OnSources.{Operator, Filter, Select, Concat, Join, Group, Distinct}
 
 -- a row of a comparison, and of an operation
 abbrev pub comparison_cost : Comparison → ℕ
@@ -50,3 +51,12 @@ group_cost (key ∷ keys) aggregates rows = rows * rows * (7 * length (key ∷ k
 -- distinct rows of so many columns
 abbrev pub distinct_cost : ℕ → ℕ → ℕ
 distinct_cost columns rows = rows * rows * (7 * columns + 4)
+
+-- an operator on its sources, from their rows and their columns
+abbrev pub operator_cost : Operator → List ℕ → List ℕ → ℕ
+operator_cost (Filter tests) sizes widths = slice_index sizes 0 * tests_cost tests
+operator_cost (Select items) sizes widths = slice_index sizes 0 * items_cost items
+operator_cost Concat sizes widths = 0
+operator_cost (Join keys) sizes widths = slice_index sizes 0 * slice_index sizes 1 * join_cost (length keys)
+operator_cost (Group keys aggregates) sizes widths = group_cost keys aggregates (slice_index sizes 0)
+operator_cost Distinct sizes widths = distinct_cost (slice_index widths 0) (slice_index sizes 0)

@@ -3,5 +3,7 @@ pub mod Firsts
 pub mod Groups
 pub mod Joint
 pub mod Lanes
+pub mod NodeLaws
+pub mod Nodes
 pub mod Pairs
 pub mod Wired
