@@ -3,7 +3,7 @@
 ghost use Rattle.std.specs.Prelude.{◌≡◌, ◌<◌, ◌^◌, IfOk, length};
 ghost use Rattle.wires.specs.Growth.{IsMade, lanes_of};
 
-use crate::lists::{List, list_of, numbers, push, run_of, slots_of};
+use crate::lists::{List, and_words, list_of, numbers, push, run_of, slots_of};
 use circuits::{
     Fold, add, combine, eq, fold_blocks, greatest, least, lt, masked, mul, mux, or, run_copies,
     run_folds, run_sums, sub,
@@ -148,19 +148,6 @@ fn emitted(list: &mut List, alloc: Global, circuit: Circuit) -> Result<u32, Fail
     let mut wires = Emit::new(list);
     let new = apply(&mut wires, alloc, circuit, Wire(0), Wire(1))?;
     Ok(new.0)
-}
-
-// A list's AND words.
-fn and_words(list: &List) -> u64 {
-    let mut words = 0u64;
-    for step in list.steps() {
-        if let Step::And { left, right: _ } = step {
-            if *left < list.registers() {
-                words = words.saturating_add(list.length(*left) as u64);
-            }
-        }
-    }
-    words
 }
 
 // The words that are opened of a circuit's register, in some order.

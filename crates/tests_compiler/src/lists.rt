@@ -60,3 +60,16 @@ pub(crate) fn run_of(
     let tapes = make_tapes(rt.alloc(), &schedule, seed)?;
     Ok(joint_run(rt.alloc(), list, slots, &tapes)?)
 }
+
+// A list's AND words.
+pub(crate) fn and_words(list: &List) -> u64 {
+    let mut words = 0u64;
+    for step in list.steps() {
+        if let Step::And { left, right: _ } = step {
+            if *left < list.registers() {
+                words = words.saturating_add(list.length(*left) as u64);
+            }
+        }
+    }
+    words
+}
