@@ -26,6 +26,18 @@ is_circuit (Tell source target slot) = false
 is_circuit (Work party task takes gives) = false
 is_circuit (Flag party slot) = false
 
+-- the steps that open nothing to anyone
+abbrev pub opens_nothing : {T : Type 0} → Step T → Bool
+opens_nothing (Const words) = true
+opens_nothing (Lin op) = true
+opens_nothing (And left right) = true
+opens_nothing (Share party slot) = true
+opens_nothing (Reveal to moved shown) = false
+opens_nothing (Steer by slot moved) = true
+opens_nothing (Tell source target slot) = false
+opens_nothing (Work party task takes gives) = true
+opens_nothing (Flag party slot) = false
+
 -- the first list begins the second; behind it stand only steps that may, of at most so many AND words; and in each
 -- world, loaded into the first slots, the steps show each party what is wanted
 pub record Adds {T W : Type 0} (answer : T → List (List ℕ) → List (List ℕ)) (load : W → SlotWords) (a b : Steps T) (may : Step T → Bool) (most : ℕ)

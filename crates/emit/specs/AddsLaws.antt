@@ -1,5 +1,5 @@
 -- Pieces of a list one behind the other. Lemmas with their proofs, for the crates above.
-use Rattle.std.proofs.Common.{◌≡◌, ℕ, ◌+◌, ◌≤◌, Bool, List, [], ◌∷◌, ◌++◌, sym, ap, ◌∙◌, subst, arith}
+use Rattle.std.proofs.Common.{◌≡◌, ℕ, ◌+◌, ◌≤◌, Bool, false, cond, List, [], ◌∷◌, ◌++◌, append-nil, refl, sym, ap, ◌∙◌, subst, arith}
 use Rattle.std.specs.Prelude.{IsTrue}
 use Rattle.lanes.specs.declared.party.Party.{Party}
 use Rattle.step_lists.specs.declared.step.Step.{Step}
@@ -8,9 +8,9 @@ use Rattle.step_lists.specs.Draws.{ThreeTapes}
 use Rattle.step_lists.specs.Run.{tape_cut, rest_after}
 use Rattle.step_lists.specs.RunLaws.{grown_by-append, rest_after-append, outs-append}
 use Rattle.step_lists.specs.Open.{SlotWords, open_of, open_going}
-use Rattle.step_lists.specs.Seen.{Seen, AreAlike, none, also, seen_from, seen_behind, seen_going}
-use Rattle.step_lists.specs.Possible.{behind}
-use Rattle.step_lists.specs.Prefixes.{open_run, open-behind, possible_prefix, stands_refl, stands_trans}
+use Rattle.step_lists.specs.Seen.{Seen, AreAlike, none, also, seen_from, seen_behind, seen_going, seen_step}
+use Rattle.step_lists.specs.Possible.{Possible, StandsIn, ands_of, behind}
+use Rattle.step_lists.specs.Prefixes.{ands-append, open_run, open-behind, possible_prefix, stands_refl, stands_trans}
 use Rattle.emit.specs.Adds.{Adds, AllMay, wants_nothing}
 
 pub may-append : {T : Type 0} (may : Step T → Bool) (xs ys : List (Step T)) → AllMay may xs → AllMay may ys → AllMay may (xs ++ ys)
@@ -46,6 +46,25 @@ module _ {T W : Type 0} (answer : T → List (List ℕ) → List (List ℕ)) (lo
     words = omega arith;
     shown = λ w ds h v. none;
   }
+
+  -- one step more, which shows each party what is wanted
+  pub adds_step : (a : Steps T) (s : Step T) (may : Step T → Bool) (want : W → Party → List Seen) → IsTrue (may s)
+      → ((w : W) (ds : ThreeTapes) → Possible answer (behind a (s ∷ [])) (load w) ds → (v : Party)
+      → AreAlike (seen_step v (layout_of a) (open_of answer a (load w) ds) s) (want w v))
+      → Adds answer load a (behind a (s ∷ [])) may (ands_of (layout_of a) s) want
+  adds_step a s may want m h = record {
+    front = front;
+    kinds = (m, tt);
+    words = let e = ands-append (starting a.first) a.steps (s ∷ []) in omega (arith, e);
+    shown = λ w ds p v. subst (λ xs. AreAlike xs (want w v)) (sym (one w ds v (possible_prefix answer a (behind a (s ∷ [])) (load w) ds front p).going)) (h w ds p v);
+  }
+    where
+      front : StandsIn a (behind a (s ∷ []))
+      front = record { more = s ∷ []; is = refl }
+
+      one : (w : W) (ds : ThreeTapes) (v : Party) → (open_of answer a (load w) ds).stop ≡ false
+          → seen_behind answer v a (s ∷ []) (load w) ds ≡ seen_step v (layout_of a) (open_of answer a (load w) ds) s
+      one w ds v going = ap (λ b. cond b [] (seen_step v (layout_of a) (open_of answer a (load w) ds) s) ++ []) going ∙ append-nil (seen_step v (layout_of a) (open_of answer a (load w) ds) s)
 
   -- one piece after the other
   pub adds_then : (a b c : Steps T) (may : Step T → Bool) (m n : ℕ) (want later : W → Party → List Seen)

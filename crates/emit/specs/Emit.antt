@@ -12,6 +12,10 @@ use Rattle.step_lists.specs.Shapes.{HasLength}
 use Rattle.step_lists.specs.Possible.{Possible, StandsIn, behind}
 use Rattle.emit.specs.Adds.{AllMay, is_circuit}
 
+-- the open values of a list's registers, as an environment of wires
+abbrev pub opened : {T : Type 0} → (T → List (List ℕ) → List (List ℕ)) → Steps T → SlotWords → ThreeTapes → Environment
+opened answer list slots ds = register (open_of answer list slots ds)
+
 -- each wire has its register's open value, under some slots and tapes that fit and under which the list doesn't stop;
 -- it has the register's length, which is below 2 ^ 32, and its words are below 2 ^ 64
 pub record AreOpenValues {T : Type 0} (answer : T → List (List ℕ) → List (List ℕ)) (list : Steps T) (v : Environment) : Type 0 where

@@ -1,7 +1,7 @@
 //! Laws of wires over step lists: a call does nothing, and its contract states the law for all lists over a task.
 #![tactic(auto)]
 
-ghost use Rattle.emit.specs.Laws.{EnvironmentsExist, CarriedIsOpened, CircuitsAdd};
+ghost use Rattle.emit.specs.Laws.{EnvironmentsExist, CarriedIsOpened, CircuitsAdd, QuietStepsAdd, WiresStay};
 ghost use Rattle.emit.specs.PiecesAddUp.{PiecesAddUp};
 
 use step_lists::Task;
@@ -14,6 +14,16 @@ pub fn environments_are_open_values<T: Task>()
 {
     values_have_shapes::<T>();
 }
+
+/// Where a list begins a longer one, its wires stay, and have the same words in each environment of the longer list.
+pub fn wires_stay<T: Task>()
+    ensures { WiresStay T.answer }
+{}
+
+/// What steps that open nothing add to a list: they show nothing to anyone.
+pub fn quiet_steps_add<T: Task>()
+    ensures { QuietStepsAdd T.answer }
+{}
 
 /// What circuits add to a list: steps of three kinds, which show nothing to anyone.
 pub fn circuits_add<T: Task>()
