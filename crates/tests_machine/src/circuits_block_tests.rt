@@ -9,7 +9,7 @@ use std::test::Fail;
 use wires::{Clear, Tally, Wires};
 
 // Numbers of blocks, and lanes of each.
-const SIZES: [(usize, usize); 8] = [
+const SIZES: &[(usize, usize)] = &[
     (1, 1),
     (2, 1),
     (3, 1),
@@ -43,10 +43,8 @@ fn expected(fold: Fold, words: &[u64], width: usize, lane: usize) -> u64
     requires { 0 < width }
 {
     let mut all = neutral(fold);
-    for (at, word) in words.iter().enumerate() {
-        if at % width == lane {
-            all = folded(fold, all, *word);
-        }
+    for block in words.chunks(width) {
+        all = block.get(lane).map_or(all, |word| folded(fold, all, *word));
     }
     all
 }
@@ -103,8 +101,7 @@ fn first_wrong(
 #[test]
 fn blocks_are_folded_lane_by_lane(rt: HostRuntime) -> Result<(), Fail> {
     for fold in [Fold::Sum, Fold::Least, Fold::Greatest, Fold::Any] {
-        let wrong = first_wrong(rt.alloc(), fold, &SIZES)?;
-        assert!(rt; wrong.is_none(), "{fold:?} of {wrong:?}");
+        assert_eq!(rt; first_wrong(rt.alloc(), fold, SIZES)?, None, "{fold:?}");
     }
     Ok(())
 }
@@ -127,7 +124,15 @@ fn cost_of(
     Ok(wires.and_words())
 }
 
-// Whether a fold takes so many AND words a lane for each block behind the first, and a sum of some an addition more.
+// So many AND words for each block behind the first, and for a sum of some an addition more.
+fn cost_in_a_lane(fold: Fold, words: u64, count: u64) -> u64 {
+    let addition = if fold == Fold::Sum && count > 1 { 6 } else { 0 };
+    words
+        .wrapping_mul(count.saturating_sub(1))
+        .wrapping_add(addition)
+}
+
+// Whether a fold of blocks takes as many AND words as it should.
 fn costs(
     alloc: Global,
     fold: Fold,
@@ -139,12 +144,8 @@ fn costs(
         return Ok(false);
     }
     let zeros = vec![in alloc; 0; count * width]?;
-    let addition = if fold == Fold::Sum && count > 1 { 6 } else { 0 };
-    let lane = words
-        .wrapping_mul((count - 1) as u64)
-        .wrapping_add(addition);
     let cost = cost_of(alloc, fold, zeros.as_slice(), count, width)?;
-    Ok(cost == lane.wrapping_mul(width as u64))
+    Ok(cost == cost_in_a_lane(fold, words, count as u64).wrapping_mul(width as u64))
 }
 
 // The first of the sizes at which a fold takes other AND words.
@@ -165,7 +166,7 @@ fn first_other_cost(
 #[test]
 fn folds_of_blocks_cost_what_is_promised(rt: HostRuntime) -> Result<(), Fail> {
     for (fold, words) in [(Fold::Sum, 1), (Fold::Least, 8), (Fold::Greatest, 8)] {
-        let other = first_other_cost(rt.alloc(), fold, words, &SIZES)?;
+        let other = first_other_cost(rt.alloc(), fold, words, SIZES)?;
         assert!(rt; other.is_none(), "{fold:?} of {other:?}");
     }
     Ok(())

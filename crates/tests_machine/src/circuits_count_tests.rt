@@ -1,6 +1,6 @@
 ghost use Rattle.std.specs.Prelude.{◌≡◌, ◌*◌, ◌<◌, ◌^◌, length};
 
-use crate::each_circuit::{ALL, Circuit, counts_of, first_wrong, random_words};
+use crate::each_circuit::{ALL, Circuit, counts_of, first_wrong, first_wrong_of_random};
 use circuits::{Fold, fold_blocks, run_folds};
 use std::alloc::{AllocError, Global};
 use std::test::Fail;
@@ -57,10 +57,7 @@ fn all_pairs_at_the_edges(rt: HostRuntime) -> Result<(), Fail> {
 
 #[test]
 fn a_thousand_random_lanes(rt: HostRuntime) -> Result<(), Fail> {
-    let left = random_words(rt.alloc(), 17)?;
-    let right = random_words(rt.alloc(), 18)?;
-    assert!(rt; left.len() == 1000 && right.len() == 1000);
-    let wrong = first_wrong(rt.alloc(), &ALL, &left, &right)?;
+    let wrong = first_wrong_of_random(rt.alloc(), 17, 18)?;
     assert!(rt; wrong.is_none(), "{wrong:?}");
     Ok(())
 }
@@ -158,21 +155,27 @@ fn folds_of_blocks_take_what_is_promised(rt: HostRuntime) -> Result<(), Fail> {
     Ok(())
 }
 
-// Which flags were seen before, in each lane of two runs, and in each lane of three blocks of two.
-fn flags_seen(alloc: Global) -> Result<(Vec<u64>, Vec<u64>), AllocError> {
+// Whether a flag was seen in a lane of two runs up to each lane.
+fn is_seen_in_runs(alloc: Global, want: &[u64]) -> Result<bool, AllocError> {
     let mut wires = Clear::new(alloc);
     let joined = wires.constant(&[0, 1, 1, 0, 1, 1])?;
     let flags = wires.constant(&[0, 1, 0, 0, 0, 1])?;
     let seen = run_folds(&mut wires, alloc, Fold::Any, joined, flags)?;
-    let some = fold_blocks(&mut wires, alloc, Fold::Any, flags, 3, 2)?;
-    Ok((wires.value(seen).clone()?, wires.value(some).clone()?))
+    Ok(wires.value(seen).as_slice() == want)
+}
+
+// Whether one was seen in each lane of three blocks of two.
+fn is_seen_in_blocks(alloc: Global, want: &[u64]) -> Result<bool, AllocError> {
+    let mut wires = Clear::new(alloc);
+    let flags = wires.constant(&[0, 1, 0, 0, 0, 1])?;
+    let seen = fold_blocks(&mut wires, alloc, Fold::Any, flags, 3, 2)?;
+    Ok(wires.value(seen).as_slice() == want)
 }
 
 #[test]
 fn any_tells_whether_a_flag_was_seen(rt: HostRuntime) -> Result<(), Fail> {
-    let (seen, some) = flags_seen(rt.alloc())?;
-    assert_eq!(rt; seen.as_slice(), [0, 1, 1, 0, 0, 1].as_slice());
-    assert_eq!(rt; some.as_slice(), [0, 1].as_slice());
+    assert!(rt; is_seen_in_runs(rt.alloc(), &[0, 1, 1, 0, 0, 1])?);
+    assert!(rt; is_seen_in_blocks(rt.alloc(), &[0, 1])?);
     Ok(())
 }
 

@@ -42,32 +42,37 @@ fn folds(
     Ok(folds_of(alloc, fold, joined, column)?.as_slice() == want)
 }
 
+const JOINED: &[u64] = &[0, 1, 1, 0, 1];
+
+const COLUMN: &[u64] = &[3, 1, 4, 5, 9];
+
+// Folds, which lanes are joined, a column, and its folds.
+const RUNS: &[(Option<Fold>, &[u64], &[u64], &[u64])] = &[
+    (None, JOINED, COLUMN, &[3, 4, 8, 5, 14]),
+    (Some(Fold::Sum), JOINED, COLUMN, &[3, 4, 8, 5, 14]),
+    (Some(Fold::Least), JOINED, COLUMN, &[3, 1, 1, 5, 5]),
+    (Some(Fold::Greatest), JOINED, COLUMN, &[3, 3, 4, 5, 9]),
+    (None, JOINED, &[1, 2, 3, 4, 5], &[1, 3, 6, 4, 9]),
+    (None, &[1, 7, 2], &[1, 2, 3], &[1, 3, 3]),
+    (None, &[], &[], &[]),
+];
+
+// The first of the cases whose folds are other words.
+fn first_other_run(
+    alloc: Global,
+    cases: &[(Option<Fold>, &[u64], &[u64], &[u64])],
+) -> Result<Option<usize>, AllocError> {
+    for (index, (fold, joined, column, want)) in cases.iter().enumerate() {
+        if !folds(alloc, *fold, joined, column, want)? {
+            return Ok(Some(index));
+        }
+    }
+    Ok(None)
+}
+
 #[test]
 fn runs_are_folded_lane_by_lane(rt: HostRuntime) -> Result<(), Fail> {
-    let joined = [0, 1, 1, 0, 1];
-    let column = [3, 1, 4, 5, 9];
-    for (fold, want) in [
-        (None, [3, 4, 8, 5, 14]),
-        (Some(Fold::Sum), [3, 4, 8, 5, 14]),
-        (Some(Fold::Least), [3, 1, 1, 5, 5]),
-        (Some(Fold::Greatest), [3, 3, 4, 5, 9]),
-    ] {
-        assert!(rt;
-            folds(rt.alloc(), fold, &joined, &column, &want)?,
-            "{fold:?}"
-        );
-    }
-    assert!(rt;
-        folds(
-            rt.alloc(),
-            None,
-            &joined,
-            &[1, 2, 3, 4, 5],
-            &[1, 3, 6, 4, 9]
-        )?
-    );
-    assert!(rt; folds(rt.alloc(), None, &[1, 7, 2], &[1, 2, 3], &[1, 3, 3])?);
-    assert!(rt; folds(rt.alloc(), None, &[], &[], &[])?);
+    assert_eq!(rt; first_other_run(rt.alloc(), RUNS)?, None);
     Ok(())
 }
 
@@ -114,24 +119,53 @@ fn first_other_fold(
     Ok(first_other(fold, joined, column, found.as_slice()))
 }
 
+const FOLDS: &[Option<Fold>] = &[
+    None,
+    Some(Fold::Sum),
+    Some(Fold::Least),
+    Some(Fold::Greatest),
+];
+
+// The first of the folds that has another word in some lane, and the lane.
+fn first_wrong_fold(
+    alloc: Global,
+    folds: &[Option<Fold>],
+    joined: &[u64],
+    column: &[u64],
+) -> Result<Option<(Option<Fold>, usize)>, AllocError>
+    requires few { length joined.now < 2 ^ 32 }
+    requires lanes { length joined.now ≡ length column.now }
+{
+    for fold in folds {
+        if let Some(lane) = first_other_fold(alloc, *fold, joined, column)? {
+            return Ok(Some((*fold, lane)));
+        }
+    }
+    Ok(None)
+}
+
+// Whether the copies of runs are the first words of each.
+fn are_copied(alloc: Global, joined: &[u64], column: &[u64]) -> Result<bool, AllocError>
+    requires few { length joined.now < 2 ^ 32 }
+    requires lanes { length joined.now ≡ length column.now }
+{
+    let copies = copies_of(alloc, joined, column)?;
+    Ok(first_other(None, joined, column, &copies).is_none())
+}
+
+// Whether random lanes are folded and copied.
+fn are_folded_and_copied(alloc: Global) -> Result<bool, AllocError> {
+    let (joined, column) = random_lanes(alloc)?;
+    if joined.len() != 1000 || column.len() != 1000 {
+        return Ok(false);
+    }
+    let wrong = first_wrong_fold(alloc, FOLDS, &joined, &column)?;
+    Ok(wrong.is_none() && are_copied(alloc, &joined, &column)?)
+}
+
 #[test]
 fn a_thousand_random_lanes_are_folded_and_copied(rt: HostRuntime) -> Result<(), Fail> {
-    let (joined, column) = random_lanes(rt.alloc())?;
-    assert!(rt; joined.len() == 1000 && column.len() == 1000);
-    for fold in [
-        None,
-        Some(Fold::Sum),
-        Some(Fold::Least),
-        Some(Fold::Greatest),
-    ] {
-        let other = first_other_fold(rt.alloc(), fold, &joined, &column)?;
-        assert!(rt; other.is_none(), "{fold:?} in {other:?}");
-    }
-    let copies = copies_of(rt.alloc(), &joined, &column)?;
-    assert!(rt;
-        first_other(None, &joined, &column, &copies).is_none(),
-        "copies"
-    );
+    assert!(rt; are_folded_and_copied(rt.alloc())?);
     Ok(())
 }
 
@@ -182,54 +216,63 @@ fn copies_of(alloc: Global, joined: &[u64], column: &[u64]) -> Result<Vec<u64>, 
     wires.value(copies[0]).clone()
 }
 
-// The words of the copies of two columns of five lanes.
-fn copies_of_two(
+// Whether the copies of two columns of five lanes are these words.
+fn copies_two(
     alloc: Global,
     joined: &[u64; 5],
-    first: &[u64; 5],
-    second: &[u64; 5],
-) -> Result<(Vec<u64>, Vec<u64>), AllocError> {
+    columns: &[[u64; 5]; 2],
+    want: &[[u64; 5]; 2],
+) -> Result<bool, AllocError> {
     let mut wires = Clear::new(alloc);
     let flags = wires.constant(joined)?;
-    let first = wires.constant(first)?;
-    let second = wires.constant(second)?;
-    let copies = run_copies(&mut wires, alloc, flags, &[first, second])?;
-    Ok((
-        wires.value(copies[0]).clone()?,
-        wires.value(copies[1]).clone()?,
-    ))
+    let one = wires.constant(&columns[0])?;
+    let other = wires.constant(&columns[1])?;
+    let copies = run_copies(&mut wires, alloc, flags, &[one, other])?;
+    Ok(
+        wires.value(copies[0]).as_slice() == want[0].as_slice()
+            && wires.value(copies[1]).as_slice() == want[1].as_slice(),
+    )
 }
 
 #[test]
 fn runs_are_copied_lane_by_lane(rt: HostRuntime) -> Result<(), Fail> {
-    let (first, second) = copies_of_two(
-        rt.alloc(),
-        &[0, 1, 1, 0, 1],
-        &[1, 2, 3, 4, 5],
-        &[9, 8, 7, 6, 0],
-    )?;
-    assert_eq!(rt; first.as_slice(), [1, 1, 1, 4, 4].as_slice());
-    assert_eq!(rt; second.as_slice(), [9, 9, 9, 6, 6].as_slice());
+    let columns = [[1, 2, 3, 4, 5], [9, 8, 7, 6, 0]];
+    let copies = [[1, 1, 1, 4, 4], [9, 9, 9, 6, 6]];
+    assert!(rt; copies_two(rt.alloc(), &[0, 1, 1, 0, 1], &columns, &copies)?);
     Ok(())
 }
 
-// The AND words of copying no column, and two columns.
-fn copies_cost(alloc: Global, zeros: &[u64]) -> Result<[u64; 2], AllocError>
+// The AND words of copying no column.
+fn cost_of_no_copy(alloc: Global, zeros: &[u64]) -> Result<u64, AllocError>
     requires { length zeros.now < 2 ^ 32 }
 {
-    let mut none = Tally::new(alloc);
-    let joined = none.constant(zeros)?;
-    let _none = run_copies(&mut none, alloc, joined, &[])?;
-    let mut two = Tally::new(alloc);
-    let x = two.constant(zeros)?;
-    let _two = run_copies(&mut two, alloc, x, &[x, x])?;
-    Ok([none.and_words(), two.and_words()])
+    let mut wires = Tally::new(alloc);
+    let joined = wires.constant(zeros)?;
+    let _none = run_copies(&mut wires, alloc, joined, &[])?;
+    Ok(wires.and_words())
+}
+
+// The AND words of copying two columns.
+fn cost_of_two_copies(alloc: Global, zeros: &[u64]) -> Result<u64, AllocError>
+    requires { length zeros.now < 2 ^ 32 }
+{
+    let mut wires = Tally::new(alloc);
+    let x = wires.constant(zeros)?;
+    let _two = run_copies(&mut wires, alloc, x, &[x, x])?;
+    Ok(wires.and_words())
+}
+
+// Whether copying no column, and two columns, takes so many AND words.
+fn copies_cost(alloc: Global, zeros: &[u64], none: u64, two: u64) -> Result<bool, AllocError>
+    requires { length zeros.now < 2 ^ 32 }
+{
+    Ok(cost_of_no_copy(alloc, zeros)? == none && cost_of_two_copies(alloc, zeros)? == two)
 }
 
 #[test]
 fn copies_cost_what_is_promised(rt: HostRuntime) -> Result<(), Fail> {
-    assert_eq!(rt; copies_cost(rt.alloc(), &[0])?, [0, 0]);
-    assert_eq!(rt; copies_cost(rt.alloc(), &[0, 0])?, [2, 6]);
-    assert_eq!(rt; copies_cost(rt.alloc(), &[0, 0, 0, 0, 0])?, [15, 45]);
+    assert!(rt; copies_cost(rt.alloc(), &[0], 0, 0)?);
+    assert!(rt; copies_cost(rt.alloc(), &[0, 0], 2, 6)?);
+    assert!(rt; copies_cost(rt.alloc(), &[0, 0, 0, 0, 0], 15, 45)?);
     Ok(())
 }

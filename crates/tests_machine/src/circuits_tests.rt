@@ -1,12 +1,12 @@
 ghost use Rattle.std.specs.Prelude.{◌<◌, ◌^◌, length};
 
-use crate::each_circuit::{ALL, Circuit, counts_of, first_wrong, random_words, values_of};
+use crate::each_circuit::{Circuit, counts_of, first_wrong_of_random, values_of};
 use circuits::Fold;
 use std::alloc::{AllocError, Global};
 use std::test::Fail;
 
 // Each circuit, and its AND words a lane.
-const CIRCUITS: [(Circuit, u64); 14] = [
+const CIRCUITS: &[(Circuit, u64)] = &[
     (Circuit::Eq, 6),
     (Circuit::Lt, 7),
     (Circuit::Add, 7),
@@ -37,37 +37,39 @@ fn first_wrong_at(
     Ok(None)
 }
 
+const MAX: u64 = u64::MAX;
+
+// Circuits of two words, each with the word that it gives.
+const EDGES: &[(Circuit, u64, u64, u64)] = &[
+    (Circuit::Eq, MAX, MAX, 1),
+    (Circuit::Eq, 0, 1 << 63, 0),
+    (Circuit::Lt, MAX, 0, 0),
+    (Circuit::Lt, 41, 41, 0),
+    (Circuit::Lt, 0, 1, 1),
+    (Circuit::Add, MAX, 2, 1),
+    (Circuit::Sub, 0, 1, MAX),
+    (Circuit::Mul, 4294967296, 4294967297, 4294967296),
+    (Circuit::Mul, MAX, MAX, 1),
+    (Circuit::Mul, 1, 1 << 63, 1 << 63),
+    (Circuit::Masked(Fold::Least), 6, 5, MAX),
+    (Circuit::Masked(Fold::Greatest), 6, 5, 0),
+];
+
 #[test]
 fn circuits_compute_words_at_the_edges(rt: HostRuntime) -> Result<(), Fail> {
-    let max = u64::MAX;
-    let cases: [(Circuit, u64, u64, u64); 12] = [
-        (Circuit::Eq, max, max, 1),
-        (Circuit::Eq, 0, 1 << 63, 0),
-        (Circuit::Lt, max, 0, 0),
-        (Circuit::Lt, 41, 41, 0),
-        (Circuit::Lt, 0, 1, 1),
-        (Circuit::Add, max, 2, 1),
-        (Circuit::Sub, 0, 1, max),
-        (Circuit::Mul, 4294967296, 4294967297, 4294967296),
-        (Circuit::Mul, max, max, 1),
-        (Circuit::Mul, 1, 1 << 63, 1 << 63),
-        (Circuit::Masked(Fold::Least), 6, 5, max),
-        (Circuit::Masked(Fold::Greatest), 6, 5, 0),
-    ];
-    let wrong = first_wrong_at(rt.alloc(), &cases)?;
+    let wrong = first_wrong_at(rt.alloc(), EDGES)?;
     assert!(rt; wrong.is_none(), "{wrong:?}");
     Ok(())
 }
 
 #[test]
 fn circuits_compute_what_rust_computes(rt: HostRuntime) -> Result<(), Fail> {
-    let left = random_words(rt.alloc(), 7)?;
-    let right = random_words(rt.alloc(), 8)?;
-    assert!(rt; left.len() == 1000 && right.len() == 1000);
-    let wrong = first_wrong(rt.alloc(), &ALL, &left, &right)?;
+    let wrong = first_wrong_of_random(rt.alloc(), 7, 8)?;
     assert!(rt; wrong.is_none(), "{wrong:?}");
     Ok(())
 }
+
+const ZEROS: [u64; 5] = [0; 5];
 
 // The first of the circuits that takes other AND words than it has a lane, over zeros.
 fn first_other_cost(
@@ -88,11 +90,9 @@ fn first_other_cost(
 
 #[test]
 fn circuits_cost_what_is_promised(rt: HostRuntime) -> Result<(), Fail> {
-    let one = first_other_cost(rt.alloc(), &CIRCUITS, &[0])?;
-    assert!(rt; one.is_none(), "{one:?}");
-    let two = first_other_cost(rt.alloc(), &CIRCUITS, &[0, 0])?;
-    assert!(rt; two.is_none(), "{two:?}");
-    let five = first_other_cost(rt.alloc(), &CIRCUITS, &[0, 0, 0, 0, 0])?;
-    assert!(rt; five.is_none(), "{five:?}");
+    for lanes in [1usize, 2, 5] {
+        let other = first_other_cost(rt.alloc(), CIRCUITS, &ZEROS[..lanes])?;
+        assert!(rt; other.is_none(), "{other:?} on {lanes} lanes");
+    }
     Ok(())
 }

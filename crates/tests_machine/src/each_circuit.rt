@@ -159,8 +159,22 @@ pub(crate) fn first_wrong(
     Ok(None)
 }
 
+// The same in a thousand lanes of random words of two seeds.
+pub(crate) fn first_wrong_of_random(
+    alloc: Global,
+    seed: u64,
+    other: u64,
+) -> Result<Option<Circuit>, AllocError> {
+    let left = random_words(alloc, seed)?;
+    let right = random_words(alloc, other)?;
+    if left.len() != 1000 || right.len() != 1000 {
+        return Ok(Some(Circuit::Eq));
+    }
+    first_wrong(alloc, &ALL, &left, &right)
+}
+
 // A thousand random words.
-pub(crate) fn random_words(alloc: Global, seed: u64) -> Result<Vec<u64>, AllocError> {
+fn random_words(alloc: Global, seed: u64) -> Result<Vec<u64>, AllocError> {
     let mut random = StdRng::seed_from_u64(seed);
     let mut words = Vec::new(alloc);
     for _ in 0..1000 {

@@ -187,20 +187,45 @@ fn are_aligned(
     )
 }
 
+// Whether rows are aligned with the same ones in another order.
+fn shuffled_rows_are_aligned(
+    alloc: Global,
+    random: &mut StdRng,
+    source: &Vec<Vec<u64>>,
+    words: &mut Vec<u64>,
+) -> Result<bool, Fail> {
+    words.as_mut_slice().shuffle(random);
+    let target = rows_of(alloc, words)?;
+    are_aligned(alloc, source, &target)
+}
+
+// Whether rows with one more aren't the same bag.
+fn one_more_is_refused(
+    alloc: Global,
+    source: &Vec<Vec<u64>>,
+    words: &mut Vec<u64>,
+) -> Result<bool, AllocError> {
+    words.push(5)?;
+    let more = rows_of(alloc, words)?;
+    Ok(fault_of_alignment(alloc, source, &more) == Some(AlignFault::NotSameBag))
+}
+
 // Rows of one word below 5, so that many are equal.
+fn align_as_they_should(alloc: Global, random: &mut StdRng, count: u32) -> Result<bool, Fail> {
+    let mut words = random_words(alloc, random, count, 5)?;
+    let source = rows_of(alloc, &words)?;
+    Ok(
+        shuffled_rows_are_aligned(alloc, random, &source, &mut words)?
+            && one_more_is_refused(alloc, &source, &mut words)?,
+    )
+}
+
 #[test]
 fn rows_with_repeats_are_aligned(rt: HostRuntime) -> Result<(), Fail> {
     let mut random = StdRng::seed_from_u64(9);
     for count in [0, 1, 3, 50, 200] {
-        let mut words = random_words(rt.alloc(), &mut random, count, 5)?;
-        let source = rows_of(rt.alloc(), &words)?;
-        words.as_mut_slice().shuffle(&mut random);
-        let target = rows_of(rt.alloc(), &words)?;
-        assert!(rt; are_aligned(rt.alloc(), &source, &target)?, "{count} rows");
-        words.push(5)?;
-        let more = rows_of(rt.alloc(), &words)?;
-        let fault = fault_of_alignment(rt.alloc(), &source, &more);
-        assert_eq!(rt; fault, Some(AlignFault::NotSameBag));
+        let is_right = align_as_they_should(rt.alloc(), &mut random, count)?;
+        assert!(rt; is_right, "{count} rows");
     }
     Ok(())
 }

@@ -1,4 +1,5 @@
 use crate::tapes_tests::{needs_of, order_of, places_at, word_at};
+use std::alloc::AllocError;
 use std::test::Fail;
 use tapes::{Cursor, Draw, Need, Needs, Tape};
 
@@ -99,17 +100,25 @@ fn the_first_unfit_draw_is_named(rt: HostRuntime) -> Result<(), Fail> {
     Ok(())
 }
 
+fn push_nine(needs: &mut Needs) -> Result<(), AllocError> {
+    needs.push_words(5)?;
+    needs.push(Need::Word)?;
+    needs.push_run(Need::OrderOf(2), 3)?;
+    Ok(())
+}
+
+fn are_nine(needs: &Needs) -> bool {
+    needs.len() == 9 && needs.runs().len() == 2
+}
+
 // Runs of equal needs join, so a long schedule of one sort is one run.
 #[test]
 fn equal_needs_join(rt: HostRuntime) -> Result<(), Fail> {
     let mut needs = Needs::new(rt.alloc());
     assert!(rt; needs.is_empty());
-    needs.push_words(5)?;
-    needs.push(Need::Word)?;
-    needs.push_run(Need::OrderOf(2), 3)?;
-    assert_eq!(rt; needs.len(), 9);
-    assert_eq!(rt; needs.runs().len(), 2);
+    push_nine(&mut needs)?;
+    assert!(rt; are_nine(&needs));
     assert!(rt; needs.push_run(Need::Word, usize::MAX).is_err());
-    assert_eq!(rt; needs.len(), 9);
+    assert!(rt; are_nine(&needs));
     Ok(())
 }

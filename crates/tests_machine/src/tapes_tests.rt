@@ -107,15 +107,16 @@ fn tells_faults(alloc: Global, needs: &Needs) -> bool {
     true
 }
 
+fn is_right(alloc: Global, tape: &Tape) -> Result<bool, AllocError> {
+    Ok(has_draws(tape) && gives_draws(tape) && is_written_as(alloc, tape, &BYTES)?)
+}
+
 #[test]
 fn tapes_are_read_and_written(rt: HostRuntime) -> Result<(), Fail> {
     let needs = needs_of(&rt, &[Need::Word, Need::OrderOf(3)])?;
     let tape = read_tape(rt.alloc(), &BYTES, &needs)?;
-    assert!(rt; has_draws(&tape));
-    assert!(rt; is_written_as(rt.alloc(), &tape, &BYTES)?);
-    let copy = tape.copy(rt.alloc())?;
-    assert!(rt; is_written_as(rt.alloc(), &copy, &BYTES)?);
-    assert!(rt; gives_draws(&copy));
+    assert!(rt; is_right(rt.alloc(), &tape)?);
+    assert!(rt; is_right(rt.alloc(), &tape.copy(rt.alloc())?)?);
     assert!(rt; tells_faults(rt.alloc(), &needs));
     Ok(())
 }
@@ -149,17 +150,31 @@ fn has_three(tape: &Tape, word: u64, places: &[u32], last: u64) -> bool {
         && word_at(tape, 2) == Some(last)
 }
 
+fn are_the_scripts(tapes: &Tapes) -> bool {
+    has_three(
+        &tapes.first,
+        0x8e6c_ab0c_9a6e_36ce,
+        &[0, 2, 1],
+        0xc9d4_478b_0a21_3b9d,
+    ) && has_three(
+        &tapes.second,
+        0xd0a2_3af9_bfb0_dc81,
+        &[0, 2, 1],
+        0xe0d1_a9e4_ddd8_ce37,
+    ) && has_three(
+        &tapes.third,
+        0x837c_24c6_d05c_2aa6,
+        &[2, 0, 1],
+        0xc613_8b62_5029_848c,
+    )
+}
+
 // What `bench/tape_values.py 7` prints, which knows nothing of this crate.
 #[test]
 fn tapes_of_a_seed_are_the_scripts(rt: HostRuntime) -> Result<(), Fail> {
     let schedule = three(&rt, &[Need::Word, Need::OrderOf(3), Need::Word])?;
     let tapes = make_tapes(rt.alloc(), &schedule, 7)?;
-    let (word, last) = (0x8e6c_ab0c_9a6e_36ce, 0xc9d4_478b_0a21_3b9d);
-    assert!(rt; has_three(&tapes.first, word, &[0, 2, 1], last));
-    let (word, last) = (0xd0a2_3af9_bfb0_dc81, 0xe0d1_a9e4_ddd8_ce37);
-    assert!(rt; has_three(&tapes.second, word, &[0, 2, 1], last));
-    let (word, last) = (0x837c_24c6_d05c_2aa6, 0xc613_8b62_5029_848c);
-    assert!(rt; has_three(&tapes.third, word, &[2, 0, 1], last));
+    assert!(rt; are_the_scripts(&tapes));
     Ok(())
 }
 
@@ -183,12 +198,25 @@ fn moves(tape: &Tape) -> bool {
     places_at(tape, 0) != Some([0, 1, 2, 3, 4, 5, 6, 7].as_slice())
 }
 
+fn any_moves(tapes: &Tapes) -> bool {
+    moves(&tapes.first) || moves(&tapes.second) || moves(&tapes.third)
+}
+
+fn is_made_again(
+    alloc: Global,
+    schedule: &Schedule,
+    seed: u64,
+    tapes: &Tapes,
+) -> Result<bool, AllocError> {
+    let again = make_tapes(alloc, schedule, seed)?;
+    are_equal(alloc, tapes, &again)
+}
+
 // Whether a seed gives the same tapes again, and whether one of them begins with another order than the identity.
 fn made_again(alloc: Global, schedule: &Schedule, seed: u64) -> Result<(bool, bool), AllocError> {
     let once = make_tapes(alloc, schedule, seed)?;
-    let again = make_tapes(alloc, schedule, seed)?;
-    let moved = moves(&once.first) || moves(&once.second) || moves(&once.third);
-    Ok((are_equal(alloc, &once, &again)?, moved))
+    let same = is_made_again(alloc, schedule, seed, &once)?;
+    Ok((same, any_moves(&once)))
 }
 
 #[test]
