@@ -1,5 +1,5 @@
 -- What circuits add to a list, and which environments its wires have.
-use Rattle.std.proofs.Common.{◌≡◌, ℕ, suc, zero, ◌<◌, Bool, true, false, cond, List, [], ◌∷◌, ◌++◌, length, map, get_or, refl, sym, ap, ◌∙◌, subst, arith, true≢false}
+use Rattle.std.proofs.Common.{◌≡◌, ℕ, suc, zero, ◌+◌, ◌<◌, ◌≤◌, Bool, true, false, cond, List, [], ◌∷◌, ◌++◌, length, map, get_or, refl, sym, ap, ◌∙◌, subst, arith, true≢false}
 use Rattle.std.specs.Prelude.{IsTrue}
 use Rattle.std.specs.List.{AllZip}
 use Rattle.std.proofs.lemmas.List.Elements.{All-head, All-tail}
@@ -14,13 +14,14 @@ use Rattle.step_lists.specs.Layout.{Layout, Steps, grown, layout_of, starting}
 use Rattle.step_lists.specs.Draws.{ThreeTapes, needs_of, taken, dropped}
 use Rattle.step_lists.specs.Run.{tape_cut, rest_after}
 use Rattle.step_lists.specs.Open.{Open, SlotWords, open_of, open_going}
-use Rattle.step_lists.specs.Possible.{Possible, StandsIn}
+use Rattle.step_lists.specs.Possible.{Possible, StandsIn, ands_in}
 use Rattle.step_lists.specs.Prefixes.{layout_prefix, possible_prefix, register_prefix}
 use Rattle.step_lists.specs.Seen.{AreAlike, none, seen_from, seen_step}
 use Rattle.step_lists.specs.Laws.{ValuesHaveShapes}
-use Rattle.emit.specs.Adds.{AllMay, is_circuit, opens_nothing}
-use Rattle.emit.specs.Emit.{opened}
-use Rattle.emit.specs.Laws.{EnvironmentsExist, CarriedIsOpened, CircuitsAdd, QuietStepsAdd, WiresStay}
+use Rattle.emit.specs.Adds.{Adds, AllMay, is_circuit, opens_nothing, wants_nothing}
+use Rattle.emit.specs.Borrowed.{borrowed}
+use Rattle.emit.specs.Emit.{AreOpenValues, GrowsByCircuit, opened}
+use Rattle.emit.specs.Laws.{EnvironmentsExist, CarriedIsOpened, CircuitsAdd, QuietStepsAdd, WiresAdd, WiresOpen, WiresStay}
 
 module _ {T : Type 0} (answer : T → List (List ℕ) → List (List ℕ)) where
   -- steps that open nothing show nothing
@@ -70,6 +71,12 @@ module _ {T : Type 0} (answer : T → List (List ℕ) → List (List ℕ)) where
       all [] k = tt
       all (s ∷ ss) k = (one s k.0, all ss k.1)
 
+  pub wires_add : WiresAdd answer
+  wires_add list start wires end cost over grown ends few =
+      let steps : GrowsByCircuit list.now (borrowed wires).now = subst (λ a. GrowsByCircuit a (borrowed wires).now) over.now grown.steps in
+      subst (λ l. Adds answer (λ (slots : SlotWords). slots) list.now l is_circuit (cost list.now) wants_nothing) (sym ends)
+      (circuits_add list.now (borrowed wires).now (cost list.now) steps (subst (λ a. ands_in (borrowed wires).now ≤ ands_in a + cost a) over.now few))
+
   -- the words of wires that were made before
   same_words : (a b : Steps T) (slots : SlotWords) (ds : ThreeTapes) → StandsIn a b → Possible answer b slots ds
       → (wires : List Wire) → AreMade (layout_of a).registers wires → map (words (opened answer b slots ds)) wires ≡ map (words (opened answer a slots ds)) wires
@@ -105,3 +112,6 @@ module _ {T : Type 0} (accepts : T → List Shape → List Shape → Bool) (answ
   pub carried_is_opened : ValuesHaveShapes accepts answer → CarriedIsOpened accepts answer
   carried_is_opened shaped list wire n value listed h slots ds p =
       h.value (opened answer list slots ds) (environments_exist shaped list slots ds listed p)
+
+  pub wires_open : EnvironmentsExist accepts answer → WiresOpen accepts answer
+  wires_open exist wires end slots ds listed ends p = subst (λ l. AreOpenValues answer l (opened answer end slots ds)) ends (exist end slots ds listed p)

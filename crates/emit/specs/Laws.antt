@@ -1,5 +1,6 @@
 -- What a caller knows of a list over which wires were made.
 use Rattle.std.specs.Prelude.{◌≡◌, All, ℕ, ◌+◌, ◌^◌, ◌<◌, ◌≤◌, Bool, List, map}
+use Rattle.std.specs.Borrow.{MutBor}
 use Rattle.wires.specs.declared.wire.Wire.{Wire}
 use Rattle.wires.specs.Environment.{Environment, words}
 use Rattle.wires.specs.Growth.{AreMade, Carries, KeepsWires}
@@ -11,6 +12,8 @@ use Rattle.step_lists.specs.Open.{SlotWords}
 use Rattle.step_lists.specs.Possible.{Possible, StandsIn, ands_in}
 use Rattle.step_lists.specs.Rules.{IsWellFormed}
 use Rattle.emit.specs.Adds.{Adds, AllMay, is_circuit, opens_nothing, wants_nothing}
+use Rattle.emit.specs.Borrowed.{GrowsOver, IsOver, borrowed}
+use Rattle.emit.specs.declared.emit.Emit.{Emit}
 use Rattle.emit.specs.Emit.{AreOpenValues, GrowsByCircuit, opened}
 
 -- a well-formed list of registers that are shorter than 2 ^ 32 words, as every list is that a `StepList` holds
@@ -50,3 +53,17 @@ QuietStepsAdd {T} answer =
 abbrev pub CircuitsAdd : {T : Type 0} → (T → List (List ℕ) → List (List ℕ)) → Type 0
 CircuitsAdd {T} answer =
     (a b : Steps T) (n : ℕ) → GrowsByCircuit a b → ands_in b ≤ ands_in a + n → Adds answer (λ (slots : SlotWords). slots) a b is_circuit n wants_nothing
+
+-- wires that were made over a list and have grown, where the list ends as they do: what they add to it
+abbrev pub WiresAdd : {T : Type 0} → (T → List (List ℕ) → List (List ℕ)) → Type 0
+WiresAdd {T} answer =
+    (list : MutBor (Steps T)) (start wires : Emit T) (end : Steps T) (cost : Steps T → ℕ) → IsOver start list → GrowsOver start wires → end ≡ (borrowed wires).now
+    → ands_in (borrowed wires).now ≤ ands_in (borrowed start).now + cost (borrowed start).now
+    → Adds answer (λ (slots : SlotWords). slots) list.now end is_circuit (cost list.now) wants_nothing
+
+-- and the open values of the list are a possible environment of these wires, so what is said of each such environment is said
+-- of the list
+abbrev pub WiresOpen : {T : Type 0} → (T → List Shape → List Shape → Bool) → (T → List (List ℕ) → List (List ℕ)) → Type 0
+WiresOpen {T} accepts answer =
+    (wires : Emit T) (end : Steps T) (slots : SlotWords) (ds : ThreeTapes) → IsListed accepts end → end ≡ (borrowed wires).now → Possible answer end slots ds
+    → AreOpenValues answer (borrowed wires).now (opened answer end slots ds)

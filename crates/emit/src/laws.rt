@@ -1,7 +1,7 @@
 //! Laws of wires over step lists: a call does nothing, and its contract states the law for all lists over a task.
 #![tactic(auto)]
 
-ghost use Rattle.emit.specs.Laws.{EnvironmentsExist, CarriedIsOpened, CircuitsAdd, QuietStepsAdd, WiresStay};
+ghost use Rattle.emit.specs.Laws.{EnvironmentsExist, CarriedIsOpened, CircuitsAdd, QuietStepsAdd, WiresAdd, WiresOpen, WiresStay};
 ghost use Rattle.emit.specs.PiecesAddUp.{PiecesAddUp};
 
 use step_lists::Task;
@@ -29,6 +29,16 @@ pub fn quiet_steps_add<T: Task>()
 pub fn circuits_add<T: Task>()
     ensures { CircuitsAdd T.answer }
 {}
+
+/// What wires leave of the list that they were made over, whatever calls were made, and after want of memory too: steps of
+/// circuits behind it, of at most as many AND words as the count rose by; and in its environments each wire has its
+/// register's open value.
+pub fn wires_leave<T: Task>()
+    ensures adds { WiresAdd T.answer }
+    ensures opened { WiresOpen T.accepts T.answer }
+{
+    environments_are_open_values::<T>();
+}
 
 /// What pieces of a list add, one behind the other.
 pub fn pieces_add_up<T: Task>()
