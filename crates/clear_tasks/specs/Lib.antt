@@ -4,3 +4,4 @@ pub mod Sorted
 pub mod SortedLaws
 pub mod ClearTask
 pub mod ClearTaskLaws
+pub mod Laws

@@ -5,6 +5,7 @@
 //! their shapes. Main promise: a task gives exactly the words of its definition.
 #![tactic(auto)]
 
+pub mod laws;
 mod shapes;
 mod sorted;
 mod task;
