@@ -92,6 +92,16 @@ module _ {T W : Type 0} (answer : T → List (List ℕ) → List (List ℕ)) (lo
       all [] k = tt
       all (s ∷ ss) k = (wider s k.0, all ss k.1)
 
+  -- the same wanted by another name
+  pub adds_same : (a b : Steps T) (may : Step T → Bool) (n : ℕ) (want other : W → Party → List Seen)
+      → ((w : W) (v : Party) → want w v ≡ other w v) → Adds answer load a b may n want → Adds answer load a b may n other
+  adds_same a b may n want other same h = record {
+    front = h.front;
+    kinds = h.kinds;
+    words = h.words;
+    shown = λ w ds p v. subst (λ xs. AreAlike (seen_behind answer v a h.front.more (load w) ds) xs) (same w v) (h.shown w ds p v);
+  }
+
 -- what is added over all slots is added over the slots of worlds
 pub adds_at : {T W : Type 0} (answer : T → List (List ℕ) → List (List ℕ)) (load : W → SlotWords) (a b : Steps T) (may : Step T → Bool) (most : ℕ)
     (want : SlotWords → Party → List Seen)
