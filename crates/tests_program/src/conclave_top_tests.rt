@@ -1,4 +1,4 @@
-use conclave_top::{conclave, one_verdict, some_verdict, statuses_are_exact};
+use conclave_top::conclave;
 use outside::{MemoryFolder, MemorySink};
 use std::alloc::{AllocError, Global};
 use std::test::Fail;
@@ -30,14 +30,13 @@ output byzip to 1
 ";
 
 /// Two relations and two outputs, which stand the other way round.
-const PAIR: &[u8] = b"relation a of 1 rows 2 (x num)
+pub(crate) const PAIR: &[u8] = b"relation a of 1 rows 2 (x num)
 relation b of 2 rows 2 (x num)
 output b to 3
 output a to 1 2
 ";
 
-const USAGE: &[u8] =
-    b"usage: conclave plan Q, plain Q, tape Q SEED T, run Q T [TURNS], audit Q PARTY A B T, replay Q PARTY T V, party Q PARTY T [PORT], make N\n";
+pub(crate) const FAULT: &[u8] = b"outside fault\n";
 
 /// The calls that are to fail: of the folder, of the output, of the stream for errors.
 pub(crate) type Failing<'a> = (&'a [u64], &'a [u64], &'a [u64]);
@@ -51,12 +50,42 @@ pub(crate) struct Run {
     pub calls: String,
 }
 
+/// Whether a run ended with this status and left this output, this line and these calls.
+pub(crate) fn is_left(run: &Run, status: u8, out: &[u8], line: &[u8], calls: &str) -> bool {
+    run.status == status
+        && run.out.as_slice() == out
+        && run.err.as_slice() == line
+        && run.calls.as_str() == calls
+}
+
 fn words_of(alloc: Global, words: &[&str]) -> Result<Vec<String>, AllocError> {
     let mut owned = Vec::new(alloc);
     for word in words {
         owned.push(String::from_str(alloc, word)?)?;
     }
     Ok(owned)
+}
+
+fn folder_of(
+    alloc: Global,
+    files: &[(&str, &[u8])],
+    failing: &[u64],
+) -> Result<MemoryFolder, AllocError> {
+    let mut owned = Vec::new(alloc);
+    for (name, bytes) in files {
+        let name = String::from_str(alloc, name)?;
+        owned.push((name, Vec::from_slice(alloc, bytes)?))?;
+    }
+    MemoryFolder::new(alloc, owned, Vec::from_slice(alloc, failing)?)
+}
+
+fn names_called(alloc: Global, folder: &MemoryFolder) -> Result<String, AllocError> {
+    let mut calls = String::new(alloc);
+    for name in folder.calls() {
+        calls.push_str(name.as_str())?;
+        calls.push(' ')?;
+    }
+    Ok(calls)
 }
 
 pub(crate) fn run_words(
@@ -66,20 +95,11 @@ pub(crate) fn run_words(
     failing: Failing<'_>,
 ) -> Result<Run, Fail> {
     let words = words_of(alloc, words)?;
-    let mut owned = Vec::new(alloc);
-    for (name, bytes) in files {
-        let name = String::from_str(alloc, name)?;
-        owned.push((name, Vec::from_slice(alloc, bytes)?))?;
-    }
-    let mut folder = MemoryFolder::new(alloc, owned, Vec::from_slice(alloc, failing.0)?)?;
+    let mut folder = folder_of(alloc, files, failing.0)?;
     let mut out = MemorySink::new(alloc, Vec::from_slice(alloc, failing.1)?);
     let mut err = MemorySink::new(alloc, Vec::from_slice(alloc, failing.2)?);
     let status = conclave(alloc, &words, &mut folder, &mut out, &mut err);
-    let mut calls = String::new(alloc);
-    for name in folder.calls() {
-        calls.push_str(name.as_str())?;
-        calls.push(' ')?;
-    }
+    let calls = names_called(alloc, &folder)?;
     let (out, err) = (out.bytes().clone()?, err.bytes().clone()?);
     Ok(Run {
         status,
@@ -90,7 +110,12 @@ pub(crate) fn run_words(
 }
 
 /// `plain` of a query over the files a, b, people, scores2 and scores3.
-fn plain<'x>(alloc: Global, query: &'x [u8], a: &'x [u8], b: &'x [u8]) -> Result<Run, Fail> {
+pub(crate) fn plain<'x>(
+    alloc: Global,
+    query: &'x [u8],
+    a: &'x [u8],
+    b: &'x [u8],
+) -> Result<Run, Fail> {
     let files: [(&str, &'x [u8]); 6] = [
         ("q.txt", query),
         ("a.csv", a),
@@ -102,264 +127,180 @@ fn plain<'x>(alloc: Global, query: &'x [u8], a: &'x [u8], b: &'x [u8]) -> Result
     run_words(alloc, &["plain", "q.txt"], &files, (&[], &[], &[]))
 }
 
+// A query, the files of a and b, what is printed, and the names that are called.
+type Answer = (
+    &'static [u8],
+    &'static [u8],
+    &'static [u8],
+    &'static [u8],
+    &'static str,
+);
+
+const ANSWERS: &[Answer] = &[
+    (
+        SCORES,
+        b"",
+        b"",
+        b"byzip\nzip,total,n\n02139,2060,3\n94110,1240,2\n",
+        "q.txt people.csv scores2.csv scores3.csv ",
+    ),
+    (
+        PAIR,
+        b"x\n5\n4\n",
+        b"x\n7\n",
+        b"b\nx\n7\na\nx\n4\n5\n",
+        "q.txt a.csv b.csv ",
+    ),
+    (
+        b"relation a of 1 rows 3 (x num, y num)\nf = filter a where x >= 2 and y != 9\noutput f to 1",
+        b"x,y\n2,9\n1,8\n2,7\n",
+        b"",
+        b"f\nx,y\n2,7\n",
+        "q.txt a.csv ",
+    ),
+    (
+        b"relation a of 1 rows 2 (x num)\ng = group a (s = sum x)\noutput g to 1\n",
+        b"x\n18446744073709551615\n2\n",
+        b"",
+        b"g\ns\n1\n",
+        "q.txt a.csv ",
+    ),
+    (
+        b"relation a of 1 rows 2 (x num)\ng = group a (s = sum x, n = count)\noutput g to 1\n",
+        b"x\n",
+        b"",
+        b"g\ns,n\n",
+        "q.txt a.csv ",
+    ),
+    (
+        b"relation a of 1 rows 4 (k num)\nj = join a a on k\noutput j to 1\n",
+        b"k\n7\n7\n9\n",
+        b"",
+        b"j\nk\n7\n7\n7\n7\n9\n",
+        "q.txt a.csv ",
+    ),
+    (
+        b"relation a of 1 rows 3 (z num)\noutput a to 1\n",
+        b"z\n02139\n18446744073709551615\n",
+        b"",
+        b"a\nz\n2139\n18446744073709551615\n",
+        "q.txt a.csv ",
+    ),
+    (
+        b"relation a of 1 rows 3 (t text)\noutput a to 1\n",
+        b"\xef\xbb\xbft\r\n\"ab,cdefg\"\r\n\"\"\r\n",
+        b"",
+        b"a\nt\n\"\"\n\"ab,cdefg\"\n",
+        "q.txt a.csv ",
+    ),
+    (
+        b"relation a of 1 rows 2 (x num)\nrelation b of 2 rows 2 (x num)\nc = concat a b\nd = distinct c\ns = select d (x, y = x * 3)\noutput s to 3\n",
+        b"x\n5\n7\n",
+        b"x\n7\n9\n",
+        b"s\nx,y\n5,15\n7,21\n9,27\n",
+        "q.txt a.csv b.csv ",
+    ),
+    (
+        b"relation a of 1 rows 4 (k num, v num)\ng = group a by k (l = least v, m = greatest v, n = count)\noutput g to 1\n",
+        b"k,v\n2,5\n1,8\n2,3\n2,9\n",
+        b"",
+        b"g\nk,l,m,n\n1,8,8,1\n2,3,9,3\n",
+        "q.txt a.csv ",
+    ),
+    (
+        b"relation a of 1 rows 3 (t text)\ns = select a (t, is = t == \"m\", less = t < \"m\")\noutput s to 1\n",
+        b"t\nm\nab\nx\n",
+        b"",
+        b"s\nt,is,less\nab,0,1\nm,1,0\nx,0,0\n",
+        "q.txt a.csv ",
+    ),
+    (
+        b"relation a of 1 rows 2 (x num)\ns = select a (y = x - 3, z = x + 18446744073709551615)\noutput s to 1\n",
+        b"x\n2\n5\n",
+        b"",
+        b"s\ny,z\n2,4\n18446744073709551615,1\n",
+        "q.txt a.csv ",
+    ),
+];
+
+// The first of the cases that prints something else.
+fn first_other_answer(alloc: Global, cases: &[Answer]) -> Result<Option<usize>, Fail> {
+    for (index, (query, a, b, want, calls)) in cases.iter().enumerate() {
+        if !is_left(&plain(alloc, query, a, b)?, 0, want, b"", calls) {
+            return Ok(Some(index));
+        }
+    }
+    Ok(None)
+}
+
 #[test]
 fn prints_the_answers_of_every_statement(rt: HostRuntime) -> Result<(), Fail> {
-    // The query, the files of a and b, what is printed, and the names that are called.
-    let cases: [(&[u8], &[u8], &[u8], &[u8], &str); 12] = [
-        (
-            SCORES,
-            b"",
-            b"",
-            b"byzip\nzip,total,n\n02139,2060,3\n94110,1240,2\n",
-            "q.txt people.csv scores2.csv scores3.csv ",
-        ),
-        (
-            PAIR,
-            b"x\n5\n4\n",
-            b"x\n7\n",
-            b"b\nx\n7\na\nx\n4\n5\n",
-            "q.txt a.csv b.csv ",
-        ),
-        (
-            b"relation a of 1 rows 3 (x num, y num)\nf = filter a where x >= 2 and y != 9\noutput f to 1",
-            b"x,y\n2,9\n1,8\n2,7\n",
-            b"",
-            b"f\nx,y\n2,7\n",
-            "q.txt a.csv ",
-        ),
-        (
-            b"relation a of 1 rows 2 (x num)\ng = group a (s = sum x)\noutput g to 1\n",
-            b"x\n18446744073709551615\n2\n",
-            b"",
-            b"g\ns\n1\n",
-            "q.txt a.csv ",
-        ),
-        (
-            b"relation a of 1 rows 2 (x num)\ng = group a (s = sum x, n = count)\noutput g to 1\n",
-            b"x\n",
-            b"",
-            b"g\ns,n\n",
-            "q.txt a.csv ",
-        ),
-        (
-            b"relation a of 1 rows 4 (k num)\nj = join a a on k\noutput j to 1\n",
-            b"k\n7\n7\n9\n",
-            b"",
-            b"j\nk\n7\n7\n7\n7\n9\n",
-            "q.txt a.csv ",
-        ),
-        (
-            b"relation a of 1 rows 3 (z num)\noutput a to 1\n",
-            b"z\n02139\n18446744073709551615\n",
-            b"",
-            b"a\nz\n2139\n18446744073709551615\n",
-            "q.txt a.csv ",
-        ),
-        (
-            b"relation a of 1 rows 3 (t text)\noutput a to 1\n",
-            b"\xef\xbb\xbft\r\n\"ab,cdefg\"\r\n\"\"\r\n",
-            b"",
-            b"a\nt\n\"\"\n\"ab,cdefg\"\n",
-            "q.txt a.csv ",
-        ),
-        (
-            b"relation a of 1 rows 2 (x num)\nrelation b of 2 rows 2 (x num)\nc = concat a b\nd = distinct c\ns = select d (x, y = x * 3)\noutput s to 3\n",
-            b"x\n5\n7\n",
-            b"x\n7\n9\n",
-            b"s\nx,y\n5,15\n7,21\n9,27\n",
-            "q.txt a.csv b.csv ",
-        ),
-        (
-            b"relation a of 1 rows 4 (k num, v num)\ng = group a by k (l = least v, m = greatest v, n = count)\noutput g to 1\n",
-            b"k,v\n2,5\n1,8\n2,3\n2,9\n",
-            b"",
-            b"g\nk,l,m,n\n1,8,8,1\n2,3,9,3\n",
-            "q.txt a.csv ",
-        ),
-        (
-            b"relation a of 1 rows 3 (t text)\ns = select a (t, is = t == \"m\", less = t < \"m\")\noutput s to 1\n",
-            b"t\nm\nab\nx\n",
-            b"",
-            b"s\nt,is,less\nab,0,1\nm,1,0\nx,0,0\n",
-            "q.txt a.csv ",
-        ),
-        (
-            b"relation a of 1 rows 2 (x num)\ns = select a (y = x - 3, z = x + 18446744073709551615)\noutput s to 1\n",
-            b"x\n2\n5\n",
-            b"",
-            b"s\ny,z\n2,4\n18446744073709551615,1\n",
-            "q.txt a.csv ",
-        ),
-    ];
-    for (query, a, b, want, calls) in cases {
-        let run = plain(rt.alloc(), query, a, b)?;
-        assert!(rt; run.out.as_slice() == want);
-        assert_eq!(rt; run.status, 0);
-        assert!(rt; run.err.is_empty());
-        assert_eq!(rt; run.calls.as_str(), calls);
-    }
+    assert_eq!(rt; first_other_answer(rt.alloc(), ANSWERS)?, None);
     Ok(())
+}
+
+// Queries, each with the line that refuses it.
+const REFUSALS: &[(&[u8], &[u8])] = &[
+    (b"output", b"refused: Q1 line 1 column 7: text\n"),
+    (b"# nothing\n\x80", b"refused: Q1 line 2 column 1: text\n"),
+    (
+        b"relation a of 1 rows 2 (x num)\noutput b to 1\n",
+        b"refused: Q2 line 2: b is unknown\n",
+    ),
+    (
+        b"relation a of 1 rows 2 (x num)\nrelation a of 2 rows 2 (x num)\n",
+        b"refused: Q3 line 2: a is taken\n",
+    ),
+    (
+        b"relation a of 1 rows 2 (x num)\nf = filter a where x == \"2\"\n",
+        b"refused: Q4 line 2: kind\n",
+    ),
+    (
+        b"relation a of 1 rows 2 (x num)\nrelation b of 1 rows 2 (y num)\nc = concat a b\n",
+        b"refused: Q5 line 3: shape\n",
+    ),
+    (
+        b"relation a of 1 rows 65536 (k num, v num)\nrelation b of 2 rows 2 (k num, w num)\nj = join a b on k\n",
+        b"refused: Q6 line 3: size\n",
+    ),
+    (b"", b"refused: Q10: no output\n"),
+    (
+        b"relation b of 1 rows 2 (k num, v num)\nrelation a of 2 rows 2 (k num trust 1, s num)\nf = filter a where s > 5\nj = join b f on k via 1\noutput j to 2\n",
+        b"refused: Q8 line 4: party 1 isn't trusted with k of f\n",
+    ),
+    (
+        b"relation r of 2 rows 2 (x num) release 2\nd = distinct r at most 1\noutput r to 1\n",
+        b"refused: Q9 line 3: party 1 isn't in the release set of r\n",
+    ),
+    (BOUNDED, b"refused: not built line 5\n"),
+    (
+        b"relation a of 1 rows 2 (x num)\ng = group a by x (n = count) parts at most 1\nd = distinct a at most 1\noutput d to 1\n",
+        b"refused: not built line 2\n",
+    ),
+    (
+        b"relation a of 1 rows 2 (x num)\nf = filter a where x > 2 at most 3\n",
+        b"refused: Q10: no output\n",
+    ),
+];
+
+// The first of the queries that isn't refused so.
+fn first_other_refusal(alloc: Global, cases: &[(&[u8], &[u8])]) -> Result<Option<usize>, Fail> {
+    for (index, (query, line)) in cases.iter().enumerate() {
+        if !is_left(
+            &plain(alloc, query, b"x\n1\n", b"")?,
+            2,
+            b"",
+            line,
+            "q.txt ",
+        ) {
+            return Ok(Some(index));
+        }
+    }
+    Ok(None)
 }
 
 #[test]
 fn refuses_a_query_in_one_line(rt: HostRuntime) -> Result<(), Fail> {
-    let cases: [(&[u8], &[u8]); 13] = [
-        (b"output", b"refused: Q1 line 1 column 7: text\n"),
-        (b"# nothing\n\x80", b"refused: Q1 line 2 column 1: text\n"),
-        (
-            b"relation a of 1 rows 2 (x num)\noutput b to 1\n",
-            b"refused: Q2 line 2: b is unknown\n",
-        ),
-        (
-            b"relation a of 1 rows 2 (x num)\nrelation a of 2 rows 2 (x num)\n",
-            b"refused: Q3 line 2: a is taken\n",
-        ),
-        (
-            b"relation a of 1 rows 2 (x num)\nf = filter a where x == \"2\"\n",
-            b"refused: Q4 line 2: kind\n",
-        ),
-        (
-            b"relation a of 1 rows 2 (x num)\nrelation b of 1 rows 2 (y num)\nc = concat a b\n",
-            b"refused: Q5 line 3: shape\n",
-        ),
-        (
-            b"relation a of 1 rows 65536 (k num, v num)\nrelation b of 2 rows 2 (k num, w num)\nj = join a b on k\n",
-            b"refused: Q6 line 3: size\n",
-        ),
-        (b"", b"refused: Q10: no output\n"),
-        (
-            b"relation b of 1 rows 2 (k num, v num)\nrelation a of 2 rows 2 (k num trust 1, s num)\nf = filter a where s > 5\nj = join b f on k via 1\noutput j to 2\n",
-            b"refused: Q8 line 4: party 1 isn't trusted with k of f\n",
-        ),
-        (
-            b"relation r of 2 rows 2 (x num) release 2\nd = distinct r at most 1\noutput r to 1\n",
-            b"refused: Q9 line 3: party 1 isn't in the release set of r\n",
-        ),
-        (BOUNDED, b"refused: not built line 5\n"),
-        (
-            b"relation a of 1 rows 2 (x num)\ng = group a by x (n = count) parts at most 1\nd = distinct a at most 1\noutput d to 1\n",
-            b"refused: not built line 2\n",
-        ),
-        (
-            b"relation a of 1 rows 2 (x num)\nf = filter a where x > 2 at most 3\n",
-            b"refused: Q10: no output\n",
-        ),
-    ];
-    for (query, line) in cases {
-        let run = plain(rt.alloc(), query, b"x\n1\n", b"")?;
-        assert!(rt; run.err.as_slice() == line);
-        assert_eq!(rt; run.status, 2);
-        assert!(rt; run.out.is_empty());
-        assert_eq!(rt; run.calls.as_str(), "q.txt ");
-    }
-    Ok(())
-}
-
-#[test]
-fn names_the_first_fault_of_the_first_file_that_has_one(rt: HostRuntime) -> Result<(), Fail> {
-    let query: &[u8] =
-        b"relation a of 1 rows 2 (x num, t text)\nrelation b of 2 rows 3 (z num)\noutput b to 1\n";
-    let good: &[u8] = b"x,t\n1,\n";
-    // The files of a and b, and the line.
-    let cases: [(&[u8], &[u8], &[u8]); 9] = [
-        (b"", b"z\nx\n", b"file a.csv: header\n"),
-        (b"x,t\n1\n", b"", b"file a.csv: record 2: fields\n"),
-        (
-            b"x,t\n1,a\n2,b\n3,c\n",
-            b"z\n",
-            b"file a.csv: 3 records, at most 2\n",
-        ),
-        (
-            b"x,t\n,a\n",
-            b"z\n",
-            b"file a.csv: record 2 column x: not a number\n",
-        ),
-        (
-            b"x,t\n1,\xc3\xa9\n",
-            b"z\n",
-            b"file a.csv: record 2 column t: text byte\n",
-        ),
-        (
-            b"x,t\n1,abcdefghi\n",
-            b"z\n",
-            b"file a.csv: record 2 column t: text too long\n",
-        ),
-        (
-            good,
-            b"z\n1\n2\n18446744073709551616\n",
-            b"file b.csv: record 4 column z: too large\n",
-        ),
-        (
-            good,
-            b"z\n1\n2\n3\n4\n",
-            b"file b.csv: 4 records, at most 3\n",
-        ),
-        (good, b"y\n", b"file b.csv: header\n"),
-    ];
-    for (a, b, line) in cases {
-        let run = plain(rt.alloc(), query, a, b)?;
-        assert!(rt; run.err.as_slice() == line);
-        assert_eq!(rt; run.status, 3);
-        assert!(rt; run.out.is_empty());
-        assert_eq!(rt; run.calls.as_str(), "q.txt a.csv b.csv ");
-    }
-    Ok(())
-}
-
-#[test]
-fn tells_the_usage_to_words_that_are_no_form(rt: HostRuntime) -> Result<(), Fail> {
-    let cases: [&[&str]; 7] = [
-        &[],
-        &["plain"],
-        &["plain", ""],
-        &["plan", ""],
-        &["--help"],
-        &["Plain", "q.txt"],
-        &["plain", "q.txt", "t"],
-    ];
-    for words in cases {
-        let run = run_words(rt.alloc(), words, &[("q.txt", PAIR)], (&[], &[], &[]))?;
-        assert_eq!(rt; run.status, 1);
-        assert!(rt; run.out.is_empty());
-        assert!(rt; run.err.as_slice() == USAGE);
-        assert!(rt; run.calls.is_empty());
-    }
-    Ok(())
-}
-
-#[test]
-fn tells_each_failing_call_as_a_fault_of_the_outside(rt: HostRuntime) -> Result<(), Fail> {
-    let files: [(&str, &[u8]); 3] = [("q.txt", PAIR), ("a.csv", b"x\n1\n"), ("b.csv", b"x\n2\n")];
-    let cases: [(Failing<'_>, u8, &[u8]); 6] = [
-        ((&[0], &[], &[]), 8, b"outside fault\n"),
-        ((&[1], &[], &[]), 8, b"outside fault\n"),
-        ((&[2], &[], &[]), 8, b"outside fault\n"),
-        ((&[], &[0], &[]), 8, b"outside fault\n"),
-        ((&[], &[0], &[0]), 8, b""),
-        ((&[3], &[1], &[0]), 0, b""),
-    ];
-    for (failing, status, line) in cases {
-        let run = run_words(rt.alloc(), &["plain", "q.txt"], &files, failing)?;
-        assert_eq!(rt; run.status, status);
-        assert!(rt; (status == 0) || run.out.is_empty());
-        assert!(rt; run.err.as_slice() == line);
-    }
-    for (present, calls) in [
-        (0, "q.txt "),
-        (1, "q.txt a.csv "),
-        (2, "q.txt a.csv b.csv "),
-    ] {
-        let run = run_words(
-            rt.alloc(),
-            &["plain", "q.txt"],
-            &files[..present],
-            (&[], &[], &[]),
-        )?;
-        assert_eq!(rt; run.status, 8);
-        assert_eq!(rt; run.calls.as_str(), calls);
-    }
-    one_verdict();
-    some_verdict();
-    statuses_are_exact();
+    assert_eq!(rt; first_other_refusal(rt.alloc(), REFUSALS)?, None);
     Ok(())
 }
