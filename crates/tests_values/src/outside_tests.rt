@@ -2,11 +2,10 @@ use outside::{DiskFolder, Folder, FolderFault, MemoryFolder, MemorySink, OutFaul
 use std::alloc::{AllocError, Global};
 use std::test::Fail;
 
-fn named(rt: &HostRuntime, name: &str, bytes: &[u8]) -> Result<(String, Vec<u8>), Fail> {
-    Ok((
-        String::from_str(rt.alloc(), name)?,
-        Vec::from_slice(rt.alloc(), bytes)?,
-    ))
+fn named(alloc: Global, name: &str, bytes: &[u8]) -> Result<(String, Vec<u8>), AllocError> {
+    let name = String::from_str(alloc, name)?;
+    let bytes = Vec::from_slice(alloc, bytes)?;
+    Ok((name, bytes))
 }
 
 fn is_some_and_equal(found: Option<&Vec<u8>>, wanted: &[u8]) -> bool {
@@ -14,14 +13,13 @@ fn is_some_and_equal(found: Option<&Vec<u8>>, wanted: &[u8]) -> bool {
 }
 
 // A folder with an older and a newer file a, and a file b; calls 1 and 4 fail.
-fn folder_of_three(rt: &HostRuntime) -> Result<MemoryFolder, Fail> {
-    let files = vec![in rt.alloc();
-        named(rt, "a", b"old")?,
-        named(rt, "b", b"two")?,
-        named(rt, "a", b"new")?,
-    ]?;
-    let failing = vec![in rt.alloc(); 1, 4]?;
-    Ok(MemoryFolder::new(rt.alloc(), files, failing)?)
+fn folder_of_three(alloc: Global) -> Result<MemoryFolder, AllocError> {
+    let mut files = Vec::new(alloc);
+    files.push(named(alloc, "a", b"old")?)?;
+    files.push(named(alloc, "b", b"two")?)?;
+    files.push(named(alloc, "a", b"new")?)?;
+    let failing = vec![in alloc; 1, 4]?;
+    MemoryFolder::new(alloc, files, failing)
 }
 
 // Whether a file is read, and has these bytes.
@@ -43,7 +41,7 @@ fn names_called(alloc: Global, folder: &MemoryFolder) -> Result<String, AllocErr
 
 #[test]
 fn a_memory_folder_keeps_the_later_file_and_notes_its_calls(rt: HostRuntime) -> Result<(), Fail> {
-    let mut folder = folder_of_three(&rt)?;
+    let mut folder = folder_of_three(rt.alloc())?;
     assert!(rt; reads(&mut folder, "a", b"new"), "the later file");
     assert!(rt; fails_to_read(&mut folder, "b"), "call 1 is listed");
     assert!(rt; fails_to_read(&mut folder, "c"), "a name that isn't there");
