@@ -1,149 +1,93 @@
-ghost use Rattle.std.specs.Prelude.{◌≡◌, ◌^◌, ◌<◌, length, IfOk};
-ghost use Rattle.wires.specs.Growth.{Grows};
-ghost use Rattle.wires.specs.Held.{held_shape};
+//! Joins and selects of small tables in the clear, worked by hand.
+
+ghost use Rattle.std.specs.Prelude.{◌*◌, ◌^◌, ◌<◌, length};
 ghost use Rattle.plain_operators.specs.Operators.{left_keys, right_keys};
 ghost use Rattle.plain_operators.specs.Within.{HasColumns};
-ghost use Rattle.shared_ops.specs.Joint.{IsJoint};
 
+use crate::small_tables::{are, rows_of, table_of};
 use plain_operators::{Comparison, Item, Operand, Operation};
-use shared_ops::{Joint, join_by, select_by};
+use shared_ops::{join_by, select_by};
 use std::alloc::{AllocError, Global};
 use std::test::Fail;
-use wires::{Clear, Tally, Wires};
+use wires::Clear;
 
-// A table of two columns over any words.
-fn table_of<W: Wires>(
-    wires: &mut W,
-    alloc: Global,
-    first: &[u64],
-    second: &[u64],
-    flags: &[u64],
-) -> Result<Joint, AllocError>
-    requires few { length flags.now < 2 ^ 32 }
-    requires first { length first.now ≡ length flags.now }
-    requires second { length second.now ≡ length flags.now }
-    ensures grows { Grows W.grown W.possible W.shape wires.old wires.new }
-    ensures joint { IfOk result (λ t. IsJoint (W.shape wires.new) t) }
-    ensures width { IfOk result (λ t. length t.columns.items ≡ 2) }
-    ensures rows { IfOk result (λ t. t.rows ≡ length flags.now) }
-{
-    let first = wires.constant(first)?;
-    let second = wires.constant(second)?;
-    let valid = wires.constant(flags)?;
-    let columns = Vec::from_slice(alloc, &[first, second])?;
-    Ok(Joint {
-        columns,
-        valid,
-        rows: flags.len() as u32,
-    })
-}
-
-// The words of the last column in the valid rows, in order.
-fn last_words(alloc: Global, wires: &Clear, table: &Joint) -> Result<Vec<u64>, AllocError>
-    requires joint { IsJoint (held_shape wires.now) table.now }
-{
-    let mut found = Vec::new(alloc);
-    if let Some(last) = table.columns.last() {
-        let flags = wires.value(table.valid).iter();
-        for (word, flag) in wires.value(*last).iter().zip(flags) {
-            if *flag == 1 {
-                found.push(*word)?;
-            }
-        }
-    }
-    Ok(found)
-}
-
-// The last words of a table of two columns joined with itself.
+// The rows of a table joined with itself.
 fn joined(
     alloc: Global,
-    columns: [&[u64]; 2],
-    flags: &[u64],
+    rows: &[[u64; 3]],
     keys: &[(u32, u32)],
-) -> Result<Vec<u64>, Fail>
+) -> Result<Vec<Vec<u64>>, AllocError>
+    requires few { length rows.now * length rows.now < 2 ^ 32 }
     requires left { HasColumns (left_keys keys.now) 2 }
     requires right { HasColumns (right_keys keys.now) 2 }
 {
-    let [first, second] = columns;
-    if first.len() != flags.len() || second.len() != flags.len() || flags.len() > 9 {
-        Err("uneven columns")?;
-    }
     let mut wires = Clear::new(alloc);
-    let table = table_of(&mut wires, alloc, first, second, flags)?;
+    let table = table_of(&mut wires, alloc, rows)?;
     let made = join_by(&mut wires, &table, &table, keys)?;
-    Ok(last_words(alloc, &wires, &made)?)
+    rows_of(alloc, &wires, &made)
 }
 
 #[test]
 fn a_join_has_each_pair_of_rows_with_equal_keys(rt: HostRuntime) -> Result<(), Fail> {
-    let columns: [&[u64]; 2] = [&[7, 7, 9], &[1, 2, 3]];
-    let cases: [([u64; 3], &[u64]); 4] = [
-        ([1, 1, 1], &[1, 2, 1, 2, 3]),
-        ([1, 0, 1], &[1, 3]),
-        ([0, 1, 0], &[2]),
-        ([0, 0, 0], &[]),
-    ];
-    for (flags, want) in cases {
-        let found = joined(rt.alloc(), columns, &flags, &[(0, 0)])?;
-        assert!(rt; found.as_slice() == want);
-    }
+    let all = [[7, 1, 1], [7, 2, 1], [9, 3, 1]];
+    let rows = joined(rt.alloc(), &all, &[(0, 0)])?;
+    let want: [&[u64]; 5] = [&[7, 1, 1], &[7, 1, 2], &[7, 2, 1], &[7, 2, 2], &[9, 3, 3]];
+    assert!(rt; are(rows.as_slice(), &want));
+    let some = [[7, 1, 1], [7, 2, 0], [9, 3, 1]];
+    let rows = joined(rt.alloc(), &some, &[(0, 0)])?;
+    assert!(rt; are(rows.as_slice(), &[&[7, 1, 1], &[9, 3, 3]]));
+    let none = [[7, 1, 0], [7, 2, 0]];
+    let rows = joined(rt.alloc(), &none, &[(0, 0)])?;
+    assert!(rt; rows.as_slice().is_empty());
     Ok(())
 }
 
 #[test]
 fn a_join_by_several_keys_wants_all_equal(rt: HostRuntime) -> Result<(), Fail> {
-    let columns: [&[u64]; 2] = [&[7, 7, 9], &[1, 2, 9]];
-    let found = joined(rt.alloc(), columns, &[1, 1, 1], &[(0, 0), (1, 1)])?;
-    assert!(rt; found.as_slice() == [1, 2, 9].as_slice());
-    let crossed = joined(rt.alloc(), columns, &[1, 1, 1], &[(0, 1), (1, 0)])?;
-    assert!(rt; crossed.as_slice() == [9].as_slice());
+    let table = [[7, 1, 1], [7, 2, 1], [9, 9, 1]];
+    let rows = joined(rt.alloc(), &table, &[(0, 0), (1, 1)])?;
+    assert!(rt; are(rows.as_slice(), &[&[7, 1], &[7, 2], &[9, 9]]));
+    let rows = joined(rt.alloc(), &table, &[(0, 1), (1, 0)])?;
+    assert!(rt; are(rows.as_slice(), &[&[9, 9]]));
     Ok(())
 }
 
-// The words of an operation on two columns, and its AND words for one row.
-fn computed(alloc: Global, operation: Operation) -> Result<(Vec<u64>, u64), AllocError> {
+// Whether an operation on two words gives this one.
+fn computes(
+    alloc: Global,
+    operation: Operation,
+    words: [u64; 2],
+    want: u64,
+) -> Result<bool, AllocError> {
     let item = Item::Computed {
         left: Operand::Column(0),
         operation,
         right: Operand::Column(1),
     };
+    let [left, right] = words;
     let mut wires = Clear::new(alloc);
-    let table = table_of(&mut wires, alloc, &[6, u64::MAX], &[3, 2], &[1, 1])?;
+    let table = table_of(&mut wires, alloc, &[[left, right, 1]])?;
     let made = select_by(&mut wires, &table, &[item])?;
-    let mut tally = Tally::new(alloc);
-    let row = table_of(&mut tally, alloc, &[6], &[3], &[1])?;
-    let _made = select_by(&mut tally, &row, &[item])?;
-    Ok((last_words(alloc, &wires, &made)?, tally.and_words()))
+    Ok(are(rows_of(alloc, &wires, &made)?.as_slice(), &[&[want]]))
 }
+
+const COMPUTED: &[(Operation, [u64; 2], u64)] = &[
+    (Operation::Add, [u64::MAX, 2], 1),
+    (Operation::Subtract, [2, 3], u64::MAX),
+    (Operation::Multiply, [u64::MAX, 2], u64::MAX - 1),
+    (Operation::And, [6, 3], 2),
+    (Operation::Or, [6, 3], 7),
+    (Operation::Compare(Comparison::Less), [2, u64::MAX], 1),
+    (Operation::Compare(Comparison::Different), [6, 6], 0),
+];
 
 #[test]
 fn each_operation_gives_its_words(rt: HostRuntime) -> Result<(), Fail> {
-    let cases: [(Operation, [u64; 2], u64); 7] = [
-        (Operation::Add, [9, 1], 7),
-        (Operation::Subtract, [3, u64::MAX - 2], 7),
-        (Operation::Multiply, [18, u64::MAX - 1], 133),
-        (Operation::And, [2, 2], 1),
-        (Operation::Or, [7, u64::MAX], 1),
-        (Operation::Compare(Comparison::Less), [0, 0], 7),
-        (Operation::Compare(Comparison::Different), [1, 1], 6),
-    ];
-    for (operation, want, cost) in cases {
-        let (words, spent) = computed(rt.alloc(), operation)?;
-        assert!(rt; words.as_slice() == want.as_slice());
-        assert_eq!(rt; spent, cost);
-    }
-    Ok(())
-}
-
-#[test]
-fn a_join_takes_and_words_for_each_pair(rt: HostRuntime) -> Result<(), Fail> {
-    let zeros = [0; 5];
-    for rows in [1, 2, 5] {
-        let words = &zeros[..rows];
-        let mut wires = Tally::new(rt.alloc());
-        let table = table_of(&mut wires, rt.alloc(), words, words, words)?;
-        let _made = join_by(&mut wires, &table, &table, &[(0, 0), (1, 1)])?;
-        assert_eq!(rt; wires.and_words(), 15 * (rows * rows) as u64);
+    for (operation, words, want) in COMPUTED {
+        assert!(rt;
+            computes(rt.alloc(), *operation, *words, *want)?,
+            "{operation:?}"
+        );
     }
     Ok(())
 }
