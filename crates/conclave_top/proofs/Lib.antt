@@ -1,8 +1,15 @@
+pub mod Answering
+pub mod Dues
 pub mod Ends
 pub mod Exact
+pub mod FairJobs
 pub mod Files
+pub mod Folders
 pub mod NodeNames
+pub mod Outcomes
 pub mod PlainTables
 pub mod PrintedNodes
 pub mod ReadFiles
-pub mod Verdicts
+pub mod RelationFiles
+pub mod Rest
+pub mod WriteFiles

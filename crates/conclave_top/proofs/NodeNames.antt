@@ -1,34 +1,23 @@
 -- Names of nodes are texts.
-use Rattle.std.proofs.Common.{◌≡◌, ◌+◌, inl, inr, ◌≢◌, Bor, ℕ, zero, suc, ◌<◌, Bool, true, false, not, ◌&&◌, List, [], ◌∷◌, map, filter, refl, ap, sym, ◌∙◌, subst, arith, lit<, slice_index_or}
-use Rattle.std.specs.Prelude.{IfOk, Result, Ok, Err, All}
-use Rattle.std.specs.List.{AllZip, list_all}
+use Rattle.std.proofs.Common.{◌≡◌, ◌≢◌, Bor, ℕ, zero, suc, ◌<◌, Bool, true, false, ◌&&◌, List, [], ◌∷◌, map, refl, sym, subst, arith, lit<, slice_index_or}
+use Rattle.std.specs.Prelude.{All}
+use Rattle.std.specs.List.{list_all}
 use Rattle.std.specs.Str.{IsAscii, IsUtf8}
 use Rattle.std.proofs.lemmas.Grind.{common_steps}
 use Rattle.std.proofs.lemmas.List.{get_or-map}
-use Rattle.std.proofs.lemmas.Simd.{map-map}
-use Rattle.std.proofs.lemmas.List.Elements.{All-filter, All-nil}
+use Rattle.std.proofs.lemmas.List.Elements.{All-nil}
 use Rattle.std.proofs.lemmas.Option.{slice_get-get_or}
 use Rattle.std.proofs.lemmas.Str.{IsUtf8-from_ascii}
 use Rattle.query_tokens.specs.Token.{IsName, is_word, is_word_byte, starts_word}
-use Rattle.query_text.specs.Grammar.{AreStatements, Fits}
-use Rattle.query_tokens.specs.Lines.{lines_of}
-use Rattle.query_text.specs.Text.{AreLines, IsQuery, on_line}
-use Rattle.query_text.specs.declared.statement.Body.{Body}
-use Rattle.query_text.specs.declared.statement.Body.TheVariants as bodies
-use Rattle.query_text.specs.declared.statement.Statement.{Statement}
-use Rattle.query_graph.specs.Build.{name_of}
 use Rattle.query_graph.specs.Content.{Content}
 use Rattle.query_graph.specs.IsGraph.{IsGraph, IsNode, FitsSources}
-use Rattle.query_graph.specs.Statements.{IsGraphOf, IsNodeOf, is_output}
 use Rattle.query_graph.specs.declared.node.Node.{Node}
 use Rattle.query_graph.specs.declared.operator.Operator.{Operator}
 use Rattle.query_graph.specs.declared.operator.Operator.TheVariants as operators
 use Rattle.words.specs.declared.column.Column.{Column}
 use Rattle.words.specs.declared.column.Kind.TheVariants.{Flag}
-use Rattle.conclave_top.specs.declared.compile.Stop.{Stop}
-use Rattle.conclave_top.specs.Compile.{CompilesGraph}
 use Rattle.conclave_top.proofs.ReadFiles.{within_map}
-use Rattle.conclave_top.specs.Relations.{IsStored, file_of, file_names}
+use Rattle.conclave_top.specs.Relations.{IsStored}
 use Rattle.plain_meaning.specs.Fits.{relations}
 use Rattle.query_graph.specs.Observers.{is_relation}
 
@@ -105,7 +94,3 @@ relations_stored graph is = kept_stored graph.nodes (each_stored graph is)
 pub lent_stored : (lent : List (Bor Node)) (relations : List Node) → map (λ node. node.now) lent ≡ relations → All IsStored relations → All (λ node. IsStored node.now) lent
 lent_stored lent relations same all i d within =
     subst IsStored (get_or-map (λ node. node.now) lent i d d.now within) (subst (All IsStored) (sym same) all i d.now (within_map (λ node. node.now) lent i within))
-
--- the names of lent relations' files
-pub lent_files : (lent : List (Bor Node)) (nodes : List Node) → map (λ node. node.now) lent ≡ relations nodes → map (λ node. file_of node.now) lent ≡ file_names nodes
-lent_files lent nodes same = sym (map-map file_of (λ (node : Bor Node). node.now) lent) ∙ ap (map file_of) same

@@ -1,14 +1,8 @@
 -- The tables of relations' files make a world, and its plain rows are what is printed.
-use Rattle.std.proofs.Common.{◌≡◌, ℕ, zero, suc, ◌+◌, ◌≤◌, Bool, true, false, ◌||◌, if◌then◌else◌, nat_lt, arith, List, [], ◌∷◌, ◌++◌, length, map, take, Option, Some, None, Result, Ok, Err, refl, sym, ap, ◌∙◌, subst}
-use Rattle.std.specs.Prelude.{slice_get, slice_index_or, All, ◌==◌}
-use Rattle.std.proofs.lemmas.List.Elements.{All-nil}
-use Rattle.conclave_top.proofs.NodeNames.{all_cons}
+use Rattle.std.proofs.Common.{◌≡◌, ℕ, zero, suc, ◌+◌, ◌≤◌, Bool, true, false, ◌||◌, if◌then◌else◌, arith, List, [], ◌∷◌, ◌++◌, length, map, take, Option, Some, None, Result, Ok, Err, refl, sym, ap, ◌∙◌, subst}
+use Rattle.std.specs.Prelude.{slice_get, slice_index_or}
 use Rattle.std.specs.List.{AllZip}
-use Rattle.std.proofs.lemmas.Grind.{common_steps}
-use Rattle.std.proofs.lemmas.List.{length-append, length-map, take_all}
-use Rattle.words.specs.Columns.{kinds_of, names_of, word_of}
-use Rattle.words.specs.declared.column.Column.{Column}
-use Rattle.words.specs.declared.column.Kind.{Kind}
+use Rattle.std.proofs.lemmas.List.{length-append, take_all}
 use Rattle.query_graph.specs.declared.node.Node.{Node}
 use Rattle.query_graph.specs.declared.operator.Operator.{Operator}
 use Rattle.query_graph.specs.Observers.{at_most_of, parts_at_most_of}
@@ -38,24 +32,24 @@ table_fits fit node bytes t is =
     let fits = fit node.columns node.rows bytes t is in
     record { columns = fits.same; rows = fits.few; rectangular = fits.wide; words = fits.words }
 
-files_step : (node : Node) (nodes : List Node) (first : Result table.Content TableFault) (others : Result (List table.Content) (List ℕ)) (tables : List table.Content)
+files_step : (folder : List ℕ) (node : Node) (nodes : List Node) (first : Result table.Content TableFault) (others : Result (List table.Content) (List ℕ)) (tables : List table.Content)
     → ((t : table.Content) → first ≡ Ok t → IsFileOf node t) → ((more : List table.Content) → others ≡ Ok more → AllZip IsFileOf nodes more)
-    → and_then (or_line node first) (λ t. map_ok (λ tables. t ∷ tables) others) ≡ Ok tables → AllZip IsFileOf (node ∷ nodes) tables
-files_step node nodes (Err fault) others tables here behind is = cc
-files_step node nodes (Ok t) (Err line) tables here behind is = cc
-files_step node nodes (Ok t) (Ok more) tables here behind is =
+    → and_then (or_line folder node first) (λ t. map_ok (λ tables. t ∷ tables) others) ≡ Ok tables → AllZip IsFileOf (node ∷ nodes) tables
+files_step folder node nodes (Err fault) others tables here behind is = cc
+files_step folder node nodes (Ok t) (Err line) tables here behind is = cc
+files_step folder node nodes (Ok t) (Ok more) tables here behind is =
     let same : t ∷ more ≡ tables = cc in
     subst (AllZip IsFileOf (node ∷ nodes)) same (here t refl, behind more refl)
 
 -- the tables of all relations' files are what a world is made of
-pub files_are : ReadTablesFit → (nodes : List Node) (bytes : List (List ℕ)) (tables : List table.Content) → length bytes ≡ length nodes → tables_of nodes bytes ≡ Ok tables → AllZip IsFileOf nodes tables
-files_are fit [] bytes tables count is =
+pub files_are : ReadTablesFit → (folder : List ℕ) (nodes : List Node) (bytes : List (List ℕ)) (tables : List table.Content) → length bytes ≡ length nodes → tables_of folder nodes bytes ≡ Ok tables → AllZip IsFileOf nodes tables
+files_are fit folder [] bytes tables count is =
     let same : [] ≡ tables = cc in
     subst (AllZip IsFileOf []) same tt
-files_are fit (node ∷ nodes) [] tables count is = absurd (zero_is_not_suc (length nodes) count)
-files_are fit (node ∷ nodes) (first ∷ bytes) tables count is =
-    files_step node nodes (table_in node.columns node.rows first) (tables_of nodes bytes) tables (table_fits fit node first)
-    (λ more here. files_are fit nodes bytes more (same_pred (length bytes) (length nodes) count) here) is
+files_are fit folder (node ∷ nodes) [] tables count is = absurd (zero_is_not_suc (length nodes) count)
+files_are fit folder (node ∷ nodes) (first ∷ bytes) tables count is =
+    files_step folder node nodes (table_in node.columns node.rows first) (tables_of folder nodes bytes) tables (table_fits fit node first)
+    (λ more here. files_are fit folder nodes bytes more (same_pred (length bytes) (length nodes) count) here) is
 
 unbounded_step : (node : Node) (nodes : List Node) (here : Bool) → is_bounded node.shape ≡ here → (if here then Some node.line else first_bound nodes) ≡ None → (here ≡ false) × (first_bound nodes ≡ None)
 unbounded_step node nodes true is none = cc

@@ -10,11 +10,6 @@ pub data Command : Type 0 where
   -- `plan Q`: who may know what of that query
   plan : List ℕ → Command
 
--- the name of a command's query
-abbrev pub query_of : Command → List ℕ
-query_of (plain query) = query
-query_of (plan query) = query
-
 -- a word with no byte
 abbrev pub is_empty : List ℕ → Bool
 is_empty [] = true

@@ -9,10 +9,9 @@ use Rattle.query_graph.specs.TextGraph as texts
 use Rattle.query_graph.specs.declared.fault.GraphFault.{GraphFault}
 use Rattle.trust_sets.specs.Faults.{first_fault}
 use Rattle.trust_sets.specs.Trust.{trust_of}
-use Rattle.conclave_top.specs.declared.compile.Stop.{Stop}
-use Rattle.conclave_top.specs.declared.compile.Stop.TheVariants.{Refused, Memory}
-use Rattle.conclave_top.specs.declared.end.End.{End}
-use Rattle.conclave_top.specs.declared.end.End.TheVariants as ends
+use Rattle.conclave_top.specs.declared.end.Stop.{Stop}
+use Rattle.conclave_top.specs.declared.end.Stop.TheVariants.{Line, Memory}
+use Rattle.conclave_top.specs.Job.{Compilation}
 use Rattle.conclave_top.specs.Lines.{graph_refused, text_refused, trust_refused}
 
 -- the line of the refusal of a graph, by trust or release
@@ -46,20 +45,24 @@ pub record IsCompiled (text : List ℕ) (graph : Content) : Type 0 where
   pub has : texts.HasGraph text graph
   pub passes : graph_refusal graph ≡ None
 
+-- a text is compiled to its graph
+abbrev pub graphs : Compilation Content
+graphs = record { refuses = IsRefusedText; gives = IsCompiled }
+
 -- what compiling a graph, a query, a text gives
 abbrev pub CompilesGraph : Content → Result Content Stop → Type 0
 CompilesGraph graph (Ok same) = (same ≡ graph) × (graph_refusal graph ≡ None)
-CompilesGraph graph (Err (Refused line)) = refusal_of (Ok graph) ≡ Some line.items
+CompilesGraph graph (Err (Line line)) = refusal_of (Ok graph) ≡ Some line.items
 CompilesGraph graph (Err Memory) = ⊤
 
 abbrev pub CompilesQuery : List Statement → Result Content Stop → Type 0
 CompilesQuery statements (Ok graph) = (graph_of statements ≡ Ok graph) × (graph_refusal graph ≡ None)
-CompilesQuery statements (Err (Refused line)) = refusal_of (graph_of statements) ≡ Some line.items
+CompilesQuery statements (Err (Line line)) = refusal_of (graph_of statements) ≡ Some line.items
 CompilesQuery statements (Err Memory) = ⊤
 
 abbrev pub Compiles : List ℕ → Result Content Stop → Type 0
 Compiles text (Ok graph) = IsCompiled text graph
-Compiles text (Err (Refused line)) = IsRefusedText text line.items
+Compiles text (Err (Line line)) = IsRefusedText text line.items
 Compiles text (Err Memory) = ⊤
 
 -- the file of this name has a text with this graph
@@ -67,19 +70,3 @@ pub record HasGraph (files : Option Files) (query : List ℕ) (graph : Content) 
   pub text : List ℕ
   pub held : Holds files query text
   pub compiled : IsCompiled text graph
-
--- the file of this name has a text that is refused with this line
-pub record HasRefusal (files : Option Files) (query refusal : List ℕ) : Type 0 where
-  pub text : List ℕ
-  pub held : Holds files query text
-  pub refused : IsRefusedText text refusal
-
--- what compiling the text of a file gives, or how the command ends
-abbrev pub CompilesFile : Option Files → List ℕ → Type 0 → Result Content End → Type 0
-CompilesFile files query risen (Ok graph) = HasGraph files query graph
-CompilesFile files query risen (Err ends.Done) = ⊥
-CompilesFile files query risen (Err ends.Usage) = ⊥
-CompilesFile files query risen (Err (ends.Refused line)) = HasRefusal files query line.items
-CompilesFile files query risen (Err (ends.Faulty line)) = ⊥
-CompilesFile files query risen (Err ends.Outside) = risen
-CompilesFile files query risen (Err ends.Memory) = ⊤

@@ -1,30 +1,40 @@
--- The verdict that is due for a command over what a folder tells.
-use Rattle.std.specs.Prelude.{◌≡◌, ℕ, List, Option, ◌⊎◌}
-use Rattle.outside.specs.Folder.{Files}
-use Rattle.query_graph.specs.Content.{Content}
-use Rattle.conclave_top.specs.Command.{Command, plain, plan, query_of}
-use Rattle.conclave_top.specs.Compile.{HasGraph, HasRefusal}
-use Rattle.conclave_top.specs.Plain.{IsPlainDue}
-use Rattle.conclave_top.specs.PlanText.{plan_text}
-use Rattle.conclave_top.specs.Verdict.{Verdict, refuses, prints}
+-- An outcome that is due for a command, as data.
+use Rattle.std.specs.Prelude.{ℕ, List, [], ◌++◌, map}
+use Rattle.conclave_top.specs.declared.end.Cause.{Cause}
+use Rattle.conclave_top.specs.declared.end.Cause.TheVariants.{Usage, Refused, Faulty}
+use Rattle.conclave_top.specs.Lines.{usage_line}
 
--- what a command comes to on the graph of its query
-abbrev pub IsDueOn : Option Files → Command → Content → Verdict → Type 0
-IsDueOn files (plain query) graph verdict = IsPlainDue files graph verdict
-IsDueOn files (plan query) graph verdict = verdict ≡ prints (plan_text graph)
-
--- the query is refused
-pub record IsDueRefused (files : Option Files) (command : Command) (verdict : Verdict) : Type 0 where
+-- the status, the names that are read before it, the line that tells it, the files that are written, each name with its
+-- bytes, and what the output gets
+pub record Due : Type 0 where
+  pub status : ℕ
+  pub reads : List (List ℕ)
   pub line : List ℕ
-  pub has : HasRefusal files (query_of command) line
-  pub is : verdict ≡ refuses line
+  pub writes : List (List ℕ × List ℕ)
+  pub output : List ℕ
 
--- the query has a graph, and this is what the command comes to on it
-pub record IsDueCompiled (files : Option Files) (command : Command) (verdict : Verdict) : Type 0 where
-  pub graph : Content
-  pub has : HasGraph files (query_of command) graph
-  pub due : IsDueOn files command graph verdict
+-- the status of a cause
+abbrev pub status_of : Cause → ℕ
+status_of Usage = 1
+status_of Refused = 2
+status_of Faulty = 3
 
--- what a command comes to
-abbrev pub IsDue : Option Files → Command → Verdict → Type 0
-IsDue files command verdict = IsDueRefused files command verdict ⊎ IsDueCompiled files command verdict
+-- behind these reads there is no result, and this line tells the cause
+abbrev pub stops : Cause → List (List ℕ) → List ℕ → Due
+stops cause reads line = record { status = status_of cause; reads = reads; line = line; writes = []; output = [] }
+
+-- behind these reads there is a result: these files are written, and then this is printed
+abbrev pub does : List (List ℕ) → List (List ℕ × List ℕ) → List ℕ → Due
+does reads writes output = record { status = 0; reads = reads; line = []; writes = writes; output = output }
+
+-- the words are no command
+abbrev pub usage : Due
+usage = stops Usage [] usage_line
+
+-- the same behind other reads
+abbrev pub behind : List (List ℕ) → Due → Due
+behind first due = record due { reads = first ++ due.reads }
+
+-- the names of writes
+abbrev pub names_of : List (List ℕ × List ℕ) → List (List ℕ)
+names_of writes = map (λ write. write.0) writes

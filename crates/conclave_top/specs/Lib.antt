@@ -1,11 +1,14 @@
 pub mod Answers
 pub mod Bounds
-pub mod Calls
 pub mod Command
 pub mod Compile
+pub mod Deliver
 pub mod Due
+pub mod Effect
 pub mod End
 pub mod Finish
+pub mod Job
+pub mod Jobs
 pub mod Laws
 pub mod Lines
 pub mod Outcome
@@ -13,4 +16,3 @@ pub mod Outside
 pub mod Plain
 pub mod PlanText
 pub mod Relations
-pub mod Verdict

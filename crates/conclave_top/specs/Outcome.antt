@@ -1,63 +1,47 @@
 -- What each status says.
 use Rattle.std.specs.Prelude.{◌≡◌, ℕ, List, Option, Some, None, ◌⊎◌}
-use Rattle.conclave_top.specs.Calls.{CommandCalls}
 use Rattle.conclave_top.specs.Command.{Command, command_of}
-use Rattle.conclave_top.specs.Due.{IsDue}
-use Rattle.conclave_top.specs.Lines.{memory_line, outside_line, usage_line}
-use Rattle.conclave_top.specs.Outside.{Outside, gained, HasFailed, Tells}
-use Rattle.conclave_top.specs.Verdict.{Verdict, refuses, faults, prints}
+use Rattle.conclave_top.specs.Due.{Due, usage}
+use Rattle.conclave_top.specs.Effect.{IsDone, IsLeft}
+use Rattle.conclave_top.specs.Finish.{IsMemory}
+use Rattle.conclave_top.specs.Job.{Job, only}
+use Rattle.conclave_top.specs.Jobs.{HasJob}
+use Rattle.conclave_top.specs.Lines.{outside_line}
+use Rattle.conclave_top.specs.Outside.{Outside, HasFailed, Tells}
 
--- 0: this was written to the output, and nothing to the stream for errors
-pub record IsDone (output : List ℕ) (old new : Outside) (status : ℕ) : Type 0 where
-  pub status_is : status ≡ 0
-  pub written : new.out ≡ gained output old.out
-  pub silent : new.err ≡ old.err
+-- an outcome that is due came: its status with its line, its reads and writes, and its output
+pub record Settles (due : Due) (old new : Outside) (status : ℕ) : Type 0 where
+  pub status_is : status ≡ due.status
+  pub told : Tells due.line old.err new.err
+  pub done : IsDone due old.ports new.ports
 
--- a status with its line on the stream for errors, and nothing on the output
-pub record IsRefused (number : ℕ) (line : List ℕ) (old new : Outside) (status : ℕ) : Type 0 where
-  pub status_is : status ≡ number
-  pub told : Tells line old new
-  pub unwritten : new.out ≡ old.out
+-- one that is due for the job did
+pub record IsSettled (job : Job) (old new : Outside) (status : ℕ) : Type 0 where
+  pub due : Due
+  pub is_due : job.due due
+  pub settles : Settles due old new status
 
--- 8: a count of the folder or of the output rose
-pub record IsFailed (old new : Outside) (status : ℕ) : Type 0 where
-  pub failed : HasFailed old new
-  pub refused : IsRefused 8 outside_line old new status
+-- 8: a count of the folder or of the output rose, and the job was left there
+pub record IsFailed (job : Job) (old new : Outside) (status : ℕ) : Type 0 where
+  pub status_is : status ≡ 8
+  pub failed : HasFailed old.ports new.ports
+  pub told : Tells outside_line old.err new.err
+  pub left : IsLeft job old.ports new.ports
 
--- 9: no memory was left; its line was written, or nothing
-pub record IsOutOfMemory (old new : Outside) (status : ℕ) : Type 0 where
-  pub status_is : status ≡ 9
-  pub told : (new.err ≡ gained memory_line old.err) ⊎ (new.err ≡ old.err)
-  pub unwritten : new.out ≡ old.out
+-- 9: no memory was left, and the job was left there
+pub record IsOutOfMemory (job : Job) (old new : Outside) (status : ℕ) : Type 0 where
+  pub memory : IsMemory old.err new.err status
+  pub left : IsLeft job old.ports new.ports
 
--- 2, 3 or 0: by the verdict, with its line or its output
-abbrev pub Settles : Verdict → Outside → Outside → ℕ → Type 0
-Settles (refuses line) old new status = IsRefused 2 line old new status
-Settles (faults line) old new status = IsRefused 3 line old new status
-Settles (prints output) old new status = IsDone output old new status
+-- the outcomes of a job
+abbrev pub JobOutcome : Job → Outside → Outside → ℕ → Type 0
+JobOutcome job old new status = IsSettled job old new status ⊎ (IsFailed job old new status ⊎ IsOutOfMemory job old new status)
 
--- the run settled by the verdict that is due for the command over the folder's bytes
-pub record IsSettled (command : Command) (old new : Outside) (status : ℕ) : Type 0 where
-  pub verdict : Verdict
-  pub due : IsDue old.files command verdict
-  pub settles : Settles verdict old new status
-
--- the outcomes of a command
-abbrev pub CommandOutcome : Command → Outside → Outside → ℕ → Type 0
-CommandOutcome command old new status = IsSettled command old new status ⊎ (IsFailed old new status ⊎ IsOutOfMemory old new status)
-
--- the outcomes of a command line, by the form that it is
+-- the outcomes of a command line, by the command that it is: of none the usage is told
 abbrev pub OutcomeOf : Option Command → Outside → Outside → ℕ → Type 0
-OutcomeOf None old new status = IsRefused 1 usage_line old new status ⊎ IsOutOfMemory old new status
-OutcomeOf (Some command) old new status = CommandOutcome command old new status
+OutcomeOf None old new status = IsSettled (only usage) old new status ⊎ IsOutOfMemory (only usage) old new status
+OutcomeOf (Some command) old new status = HasJob old.ports.folder.files command (λ job. JobOutcome job old new status)
 
--- the names that a command line calls, in order, or the first of them
-abbrev pub CallsOf : Option Command → Outside → Outside → Type 0
-CallsOf None old new = new.calls ≡ old.calls
-CallsOf (Some command) old new = CommandCalls old.files command old.calls new.calls
-
--- all that is promised of a command line's run: its outcome, the names that it called, and that the files stay as they were
-pub record Outcome (words : List (List ℕ)) (old new : Outside) (status : ℕ) : Type 0 where
-  pub outcome : OutcomeOf (command_of words) old new status
-  pub calls : CallsOf (command_of words) old new
-  pub files : new.files ≡ old.files
+-- all that is promised of a command line's run
+abbrev pub Outcome : List (List ℕ) → Outside → Outside → ℕ → Type 0
+Outcome words old new status = OutcomeOf (command_of words) old new status

@@ -1,4 +1,4 @@
--- The text that `plan` prints of a graph: who may know what of each node, and who gets each output.
+-- What `plan` prints of a graph: who may know what of each node, and who gets each output.
 use Rattle.std.specs.Prelude.{ℕ, ◌+◌, List, [], ◌∷◌, ◌++◌, filter, map, slice_get, codes}
 use Rattle.std.specs.Fmt.{decimal}
 use Rattle.std.specs.List.{flat_map}
@@ -13,6 +13,8 @@ use Rattle.query_graph.specs.IsGraph.{rows_at}
 use Rattle.query_graph.specs.Parties.{has}
 use Rattle.trust_sets.specs.declared.known.Known.{Known}
 use Rattle.trust_sets.specs.Known.{column_set, known_at, known_nodes}
+use Rattle.conclave_top.specs.Due.{does}
+use Rattle.conclave_top.specs.Job.{Job, only}
 use Rattle.conclave_top.specs.Lines.{line_end, name_of_node}
 
 -- the parties of a set in rising order
@@ -68,3 +70,7 @@ output_line nodes output =
 -- a line for each node and then one for each output, both in their order
 abbrev pub plan_text : Content → List ℕ
 plan_text graph = node_lines (known_nodes graph.nodes) 0 graph.nodes ++ flat_map (output_line graph.nodes) graph.outputs
+
+-- what `plan` has to do on the graph of its query: to print this, and nothing else
+abbrev pub plan_job : Content → Job
+plan_job graph = only (does [] [] (plan_text graph))

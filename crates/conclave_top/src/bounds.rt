@@ -1,22 +1,25 @@
 //! Bounds that a query's statements write, which `plain` doesn't carry out yet.
 
-ghost use Rattle.std.specs.Prelude.{◌≡◌, List, ℕ, Option};
+ghost use Rattle.std.specs.Prelude.{◌≡◌, []};
+ghost use Rattle.conclave_top.specs.declared.end.Cause.TheVariants.{Refused};
 ghost use Rattle.conclave_top.specs.Bounds.{first_bound, is_bounded};
+ghost use Rattle.conclave_top.specs.Due.{stops};
 ghost use Rattle.conclave_top.specs.End.{Ended};
+ghost use Rattle.conclave_top.specs.Job.{only};
 ghost use Rattle.conclave_top.specs.Lines.{not_built};
-ghost use Rattle.conclave_top.specs.Verdict.{refuses};
+ghost use Rattle.conclave_top.specs.Outside.{Ports};
 
-use crate::end::End;
+use crate::end::{Cause, End};
 use crate::lines::not_built;
 use query_graph::{Node, Operator};
 use std::alloc::Global;
 
 /// How `plain` ends where the statement on this line has a bound.
 pub(crate) fn unbuilt(alloc: Global, line: u32) -> End
-    ensures { (taken : Option (List ℕ)) → Ended (λ verdict. verdict ≡ refuses (not_built line)) taken taken ⊥ result }
+    ensures { (ports : Ports) → Ended (only (stops Refused [] (not_built line))) ports ports result }
 {
     match not_built(alloc, line) {
-        Ok(line) => End::Refused(line),
+        Ok(line) => End::Stopped(Cause::Refused, line),
         Err(_) => End::Memory,
     }
 }

@@ -1,16 +1,13 @@
 //! The command line.
 
-ghost use Rattle.std.specs.Prelude.{◌≡◌, ◌⊎◌, map, option_map, string_bytes};
-ghost use Rattle.outside.specs.Cause.{Rose};
-ghost use Rattle.conclave_top.specs.Calls.{CommandCalls};
+ghost use Rattle.std.specs.Prelude.{◌≡◌, map, option_map, string_bytes};
 ghost use Rattle.conclave_top.specs.Command.{command_in, command_of, command_on};
-ghost use Rattle.conclave_top.specs.Due.{IsDue};
-ghost use Rattle.conclave_top.specs.End.{Ended};
+ghost use Rattle.conclave_top.specs.Jobs.{CommandEnded};
 ghost use Rattle.conclave_top.specs.Outcome.{Outcome};
-ghost use Rattle.conclave_top.specs.Outside.{Outside};
+ghost use Rattle.conclave_top.specs.Outside.{outside_at, ports_at};
 
 use crate::end::End;
-use crate::finish::finish;
+use crate::finish::{finish, usage};
 use crate::plain::plain;
 use crate::plan::plan;
 use outside::{Folder, Sink};
@@ -31,32 +28,15 @@ pub fn conclave<F: Folder, O: Sink, E: Sink>(
     err: &mut E,
 ) -> u8
     ensures { Outcome (map string_bytes words.now.items)
-        (record {
-          files = F.files files.old;
-          calls = F.calls files.old;
-          folder_faults = F.faults files.old;
-          out = O.taken out.old;
-          out_faults = O.faults out.old;
-          err = E.taken err.old;
-          err_faults = E.faults err.old;
-        })
-        (record {
-          files = F.files files.new;
-          calls = F.calls files.new;
-          folder_faults = F.faults files.new;
-          out = O.taken out.new;
-          out_faults = O.faults out.new;
-          err = E.taken err.new;
-          err_faults = E.faults err.new;
-        })
-        result }
+        (outside_at F.Folder O.Sink E.Sink files.old out.old err.old)
+        (outside_at F.Folder O.Sink E.Sink files.new out.new err.new) result }
 {
     match form_of(words) {
         Some(form) => {
             let end = run(alloc, form, files, out);
             finish(&end, err)
         }
-        None => finish(&End::Usage, err),
+        None => usage(err),
     }
 }
 
@@ -90,10 +70,8 @@ fn form_on<'a>(word: &str, query: &'a str) -> Option<Form<'a>>
 
 /// Runs the command of a form.
 fn run<F: Folder, O: Sink>(alloc: Global, form: Form<'_>, files: &mut F, out: &mut O) -> End
-    ensures end { Ended (IsDue (F.files files.old) (command_in form.entry)) (O.taken out.old) (O.taken out.new)
-        (Rose (F.faults files.old) (F.faults files.new) ⊎ Rose (O.faults out.old) (O.faults out.new)) result }
-    ensures calls { CommandCalls (F.files files.old) (command_in form.entry) (F.calls files.old) (F.calls files.new) }
-    ensures kept { F.files files.new ≡ F.files files.old }
+    ensures { CommandEnded (command_in form.entry)
+        (ports_at F.Folder O.Sink files.old out.old) (ports_at F.Folder O.Sink files.new out.new) result }
 {
     match form {
         Form::Plain(query) => plain(alloc, query, files, out),

@@ -1,11 +1,12 @@
 //! From a query's bytes to its graph, or to the line of its refusal.
 
-ghost use Rattle.std.specs.Prelude.{◌≡◌, ◌≤◌, [], ◌∷◌, IfOk, option_map};
-ghost use Rattle.outside.specs.Cause.{Rose};
-ghost use Rattle.conclave_top.specs.Calls.{Called, CalledFront};
-ghost use Rattle.conclave_top.specs.Compile.{graph_refusal, Compiles, CompilesFile, CompilesGraph, CompilesQuery};
+ghost use Rattle.std.specs.Prelude.{◌≡◌, IfOk, option_map};
+ghost use Rattle.conclave_top.specs.Compile.{Compiles, CompilesGraph, CompilesQuery, HasGraph, graph_refusal, graphs};
+ghost use Rattle.conclave_top.specs.End.{Reads};
+ghost use Rattle.conclave_top.specs.Job.{refusal};
+ghost use Rattle.conclave_top.specs.Outside.{folder_at};
 
-use crate::end::End;
+use crate::end::{Cause, End, Stop};
 use crate::lines::{graph_refused, text_refused, trust_refused};
 use outside::{Folder, FolderFault};
 use query_graph::{Graph, GraphFault, build};
@@ -13,37 +14,14 @@ use query_text::{Query, ReadFault, read_query};
 use std::alloc::{AllocError, Global};
 use trust_sets::{check_trust, derive_trust};
 
-/// Why a text gives no graph.
-#[derive(Debug, Drop)]
-pub(crate) enum Stop {
-    /// It is refused, with this line.
-    Refused(Vec<u8>),
-    /// No memory was left.
-    Memory,
-}
-
-impl From<AllocError> for Stop {
-    ghost use Rattle.std.specs.Prelude.{◌≡◌};
-    ghost use Rattle.conclave_top.specs.declared.compile.Stop.TheVariants.{Memory};
-
-    ghost from_gives = { λ _ stop. stop ≡ Memory };
-
-    fn from(_error: AllocError) -> Stop {
-        Stop::Memory
-    }
-}
-
 /// The graph of the query in a file, or how the command ends without one.
 pub(crate) fn compile_file<F: Folder>(
     alloc: Global,
     query: &str,
     files: &mut F,
 ) -> Result<Graph, End>
-    ensures compiles { CompilesFile (F.files files.old) query.now (Rose (F.faults files.old) (F.faults files.new)) result }
-    ensures called { IfOk result (λ _. Called (query.now ∷ []) (F.calls files.old) (F.calls files.new)) }
-    ensures calls { CalledFront (query.now ∷ []) (F.calls files.old) (F.calls files.new) }
-    ensures kept { F.files files.new ≡ F.files files.old }
-    ensures later { F.faults files.old ≤ F.faults files.new }
+    ensures { Reads (refusal (F.files files.old) query.now graphs) (HasGraph (F.files files.old) query.now)
+        (folder_at F.Folder files.old) (folder_at F.Folder files.new) result }
 {
     let text = match files.read(query) {
         Ok(text) => text,
@@ -52,8 +30,7 @@ pub(crate) fn compile_file<F: Folder>(
     };
     match compile(alloc, &text) {
         Ok(graph) => Ok(graph),
-        Err(Stop::Refused(line)) => Err(End::Refused(line)),
-        Err(Stop::Memory) => Err(End::Memory),
+        Err(stop) => Err(stop.end(Cause::Refused)),
     }
 }
 
@@ -64,7 +41,7 @@ fn compile(alloc: Global, text: &[u8]) -> Result<Graph, Stop>
     match read_query(alloc, text) {
         Ok(query) => graph_of(alloc, &query),
         Err(ReadFault::Text { line, column }) => {
-            Err(Stop::Refused(text_refused(alloc, line, column)?))
+            Err(Stop::Line(text_refused(alloc, line, column)?))
         }
         Err(ReadFault::Memory) => Err(Stop::Memory),
     }
@@ -77,7 +54,7 @@ fn graph_of(alloc: Global, query: &Query) -> Result<Graph, Stop>
     match build(alloc, query) {
         Ok(graph) => checked(alloc, graph),
         Err(GraphFault::Memory) => Err(Stop::Memory),
-        Err(fault) => Err(Stop::Refused(graph_refused(alloc, &fault)?)),
+        Err(fault) => Err(Stop::Line(graph_refused(alloc, &fault)?)),
     }
 }
 
@@ -86,7 +63,7 @@ fn checked(alloc: Global, graph: Graph) -> Result<Graph, Stop>
     ensures { CompilesGraph graph result }
 {
     match graph_refusal(alloc, &graph)? {
-        Some(line) => Err(Stop::Refused(line)),
+        Some(line) => Err(Stop::Line(line)),
         None => Ok(graph),
     }
 }

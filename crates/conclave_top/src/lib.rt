@@ -1,15 +1,17 @@
 //! The commands of the program, over any folder and streams that are handed in.
 //!
 //! Stands on the query's crates, `plain_meaning`, `trust_sets`, `tables` and `outside`. The folder and the streams are
-//! seen as what they tell: files, calls, bytes, and counts of faults. The main promise stands on `conclave`, as one
-//! record: what each status says of the words, the files and the bytes written. The laws say that each comes exactly
-//! where it is due.
+//! seen as what they tell: files, calls, bytes, and counts of faults. The main promise stands on `conclave`: what each
+//! status says of the words, the files, the names called and the bytes written. A command is a case of it: the jobs that
+//! it has on its query, each with what is due. The laws say that each status comes exactly where it is due, and what a
+//! run leaves as it was.
 #![tactic(auto)]
 
 mod answers;
 mod bounds;
 mod command;
 mod compile;
+mod deliver;
 mod end;
 mod finish;
 mod laws;
@@ -17,8 +19,9 @@ mod lines;
 mod plain;
 mod plan;
 mod plan_text;
-mod print;
 mod relations;
 
 pub use command::conclave;
-pub use laws::{one_verdict, some_verdict, statuses_are_exact};
+pub use laws::{
+    leaves_the_rest, one_due, reads_come_first, ready_is_done, some_due, statuses_are_exact,
+};

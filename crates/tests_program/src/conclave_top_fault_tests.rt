@@ -1,6 +1,8 @@
 //! What the command says of faulty files, of failing calls and of words that are no form.
 use crate::conclave_top_tests::{FAULT, Failing, PAIR, is_left, plain, run_words};
-use conclave_top::{one_verdict, some_verdict, statuses_are_exact};
+use conclave_top::{
+    leaves_the_rest, one_due, reads_come_first, ready_is_done, some_due, statuses_are_exact,
+};
 use std::alloc::Global;
 use std::test::Fail;
 
@@ -138,9 +140,12 @@ fn first_other_failure(alloc: Global, cases: &[Failure]) -> Result<Option<usize>
 #[test]
 fn tells_each_failing_call_as_a_fault_of_the_outside(rt: HostRuntime) -> Result<(), Fail> {
     assert_eq!(rt; first_other_failure(rt.alloc(), FAILURES)?, None);
-    one_verdict();
-    some_verdict();
+    one_due();
+    some_due();
     statuses_are_exact();
+    ready_is_done();
+    reads_come_first();
+    leaves_the_rest();
     Ok(())
 }
 

@@ -1,31 +1,19 @@
-use Rattle.std.proofs.Common.{rules, ◌≡◌, ◌⊎◌, map, string_bytes, subst, inr}
-use Rattle.outside.specs.Cause.{Rose}
-use Rattle.conclave_top.specs.Calls.{CalledFront}
-use Rattle.conclave_top.specs.Relations.{AreHeld, file_names}
-use Rattle.conclave_top.proofs.Ends.{ended_over_graph}
+use Rattle.std.proofs.Common.{rules, ◌≡◌, Some, None, subst, sym}
+use Rattle.conclave_top.specs.Bounds.{first_bound}
+use Rattle.conclave_top.specs.End.{Ended}
+use Rattle.conclave_top.specs.Outside.{ports_at}
+use Rattle.conclave_top.specs.Plain.{job_for}
 use Rattle.conclave_top.proofs.plain.over_graph.Goals as goal
 
-pub returns-in-Ok-read_all-clause-end : goal.returns-in-Ok-read_all-clause-end
-returns-in-Ok-read_all-clause-end g c =
-    let names : map string_bytes c.deref.result.now ≡ file_names c.args.graph.now.nodes = search rules in
-    let bytes = map (λ b. b.items) c.deref-in-Ok-read_all.result.now in
-    let read : AreHeld (g.F.Folder.files c.args.files.now) (map string_bytes c.deref.result.now) bytes = search rules in
-    let held : AreHeld (g.F.Folder.files c.args.files.now) (file_names c.args.graph.now.nodes) bytes = subst (λ ns. AreHeld (g.F.Folder.files c.args.files.now) ns bytes) names read in
-    ended_over_graph (g.F.Folder.files c.args.files.now) c.args.graph.now bytes (g.O.Sink.taken c.args.out.now) (g.O.Sink.taken c.over_files.new.out)
-    (Rose (g.O.Sink.faults c.args.out.now) (g.O.Sink.faults c.over_files.new.out))
-    (Rose (g.F.Folder.faults c.args.files.now) (g.F.Folder.faults c.read_all.new.files) ⊎ Rose (g.O.Sink.faults c.args.out.now) (g.O.Sink.faults c.over_files.new.out)) c.over_files.result held (λ r. inr r) c.over_files.ensures
+pub returns-in-Some : goal.returns-in-Some
+returns-in-Some g c =
+    let ports = ports_at g.F.Folder g.O.Sink c.args.files.now c.args.out.now in
+    let bound : first_bound c.args.graph.now.nodes ≡ Some c.in-Some.line = search rules in
+    subst (λ o. Ended (job_for (g.F.Folder.files c.args.files.now) c.args.graph.now o) ports ports c.unbuilt.result) (sym bound) (c.unbuilt.ensures ports)
 
-pub returns-in-Ok-read_all-clause-calls : goal.returns-in-Ok-read_all-clause-calls
-returns-in-Ok-read_all-clause-calls g c =
-    let names : map string_bytes c.deref.result.now ≡ file_names c.args.graph.now.nodes = search rules in
-    subst (λ ns. CalledFront ns (g.F.Folder.calls c.args.files.now) (g.F.Folder.calls c.read_all.new.files)) names c.read_all.ensures.calls
-
-pub returns-in-Err-Failed-clause-calls : goal.returns-in-Err-Failed-clause-calls
-returns-in-Err-Failed-clause-calls g c =
-    let names : map string_bytes c.deref.result.now ≡ file_names c.args.graph.now.nodes = search rules in
-    subst (λ ns. CalledFront ns (g.F.Folder.calls c.args.files.now) (g.F.Folder.calls c.read_all.new.files)) names c.read_all.ensures.calls
-
-pub returns-clause-calls : goal.returns-clause-calls
-returns-clause-calls g c =
-    let names : map string_bytes c.deref.result.now ≡ file_names c.args.graph.now.nodes = search rules in
-    subst (λ ns. CalledFront ns (g.F.Folder.calls c.args.files.now) (g.F.Folder.calls c.read_all.new.files)) names c.read_all.ensures.calls
+pub returns-in-None : goal.returns-in-None
+returns-in-None g c =
+    let old = ports_at g.F.Folder g.O.Sink c.args.files.now c.args.out.now in
+    let new = ports_at g.F.Folder g.O.Sink c.over_relations.new.files c.over_relations.new.out in
+    let none : first_bound c.args.graph.now.nodes ≡ None = search rules in
+    subst (λ o. Ended (job_for (g.F.Folder.files c.args.files.now) c.args.graph.now o) old new c.over_relations.result) (sym none) c.over_relations.ensures

@@ -1,12 +1,14 @@
-use Rattle.std.proofs.Common.{◌⊎◌, inr}
-use Rattle.outside.specs.Cause.{Rose}
-use Rattle.conclave_top.specs.Command.{plan}
-use Rattle.conclave_top.proofs.Ends.{ended_on}
+use Rattle.conclave_top.specs.Outside.{folder_at, ports_at, stream_at}
+use Rattle.conclave_top.specs.PlanText.{plan_job}
+use Rattle.conclave_top.proofs.Ends.{ended_early, ended_on_graph}
 use Rattle.conclave_top.proofs.plan.plan.Goals as goal
 
-pub returns-in-Ok-clause-end : goal.returns-in-Ok-clause-end
-returns-in-Ok-clause-end g c =
-    let other : Type 0 = Rose (g.O.Sink.faults c.args.out.now) (g.O.Sink.faults c.over_graph.new.out) in
-    let all : Type 0 = Rose (g.F.Folder.faults c.args.files.now) (g.F.Folder.faults c.compile_file.new.files) ⊎ other in
-    ended_on (g.F.Folder.files c.args.files.now) (plan c.args.query.now) c.in-Ok.graph (g.O.Sink.taken c.args.out.now) (g.O.Sink.taken c.over_graph.new.out) other all c.over_graph.result
-    c.in-Ok.ensures.compiles (λ r. inr r) c.over_graph.ensures
+pub returns-in-Ok : goal.returns-in-Ok
+returns-in-Ok g c =
+    ended_on_graph (g.F.Folder.files c.args.files.now) c.args.query.now plan_job c.in-Ok.graph (folder_at g.F.Folder c.args.files.now) (folder_at g.F.Folder c.compile_file.new.files)
+    (stream_at g.O.Sink c.args.out.now) (ports_at g.F.Folder g.O.Sink c.over_graph.new.files c.over_graph.new.out) c.over_graph.result c.in-Ok.ensures.0 c.in-Ok.ensures.1 c.over_graph.ensures
+
+pub returns-in-Err : goal.returns-in-Err
+returns-in-Err g c =
+    ended_early (g.F.Folder.files c.args.files.now) c.args.query.now plan_job (folder_at g.F.Folder c.args.files.now) (folder_at g.F.Folder c.compile_file.new.files)
+    (stream_at g.O.Sink c.args.out.now) c.in-Err.end c.in-Err.ensures

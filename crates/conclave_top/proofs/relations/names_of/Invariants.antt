@@ -4,4 +4,4 @@ use Rattle.conclave_top.proofs.relations.names_of.Given as goal
 
 -- the names so far
 abbrev pub invariant-loop-node : goal.invariant-loop-node
-invariant-loop-node l = map string_bytes l.names.items ≡ map (λ node. file_of node.now) (take l.node-index l.relations)
+invariant-loop-node l = map string_bytes l.names.items ≡ map (λ node. file_of l.folder node.now) (take l.node-index l.relations)

@@ -1,5 +1,0 @@
-use Rattle.conclave_top.proofs.Verdicts as verdicts
-use Rattle.conclave_top.proofs.laws.one_verdict.Goals as goal
-
-pub returns : goal.returns
-returns c = verdicts.one_verdict c.one_reading.ensures
