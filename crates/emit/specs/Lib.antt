@@ -5,4 +5,5 @@ pub mod Emit
 pub mod EmitLaws
 pub mod Borrowed
 pub mod BorrowedLaws
+pub mod Ending
 pub mod Laws
