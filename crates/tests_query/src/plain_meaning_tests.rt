@@ -1,17 +1,26 @@
+ghost use Rattle.std.specs.Prelude.{IfOk};
+ghost use Rattle.plain_meaning.specs.Fits.{IsWorldOf};
+ghost use Rattle.plain_meaning.specs.Plain.{rows_of_tables};
+
 use plain_meaning::{PlainRows, World, plain};
 use query_graph::{Graph, Node, Operator, build};
 use query_text::read_query;
 use std::alloc::{AllocError, Global};
 use std::test::Fail;
 use tables::Table;
+use words::Column;
 
-// The file of a relation with these rows; a row of another length is left out.
-pub(crate) fn file_of(alloc: Global, node: &Node, rows: &[&[u64]]) -> Result<Table, AllocError> {
+fn columns_of(alloc: Global, node: &Node) -> Result<Vec<Column>, AllocError> {
     let mut columns = Vec::new(alloc);
     for column in node.columns.as_slice() {
         columns.push(column.clone()?)?;
     }
-    let mut table = Table::new(alloc, columns);
+    Ok(columns)
+}
+
+// The file of a relation with these rows; a row of another length is left out.
+pub(crate) fn file_of(alloc: Global, node: &Node, rows: &[&[u64]]) -> Result<Table, AllocError> {
+    let mut table = Table::new(alloc, columns_of(alloc, node)?);
     for row in rows {
         if row.len() == table.columns().len() {
             table.push(row)?;
@@ -20,11 +29,15 @@ pub(crate) fn file_of(alloc: Global, node: &Node, rows: &[&[u64]]) -> Result<Tab
     Ok(table)
 }
 
+fn is_relation(node: &Node) -> bool {
+    matches!(&node.shape, Operator::Relation(_))
+}
+
 // A table for each relation, of these rows in order, and of none where there are too few.
 fn files_of(alloc: Global, graph: &Graph, files: &[&[&[u64]]]) -> Result<Vec<Table>, AllocError> {
     let mut tables = Vec::new(alloc);
     for node in graph.nodes() {
-        if matches!(&node.shape, Operator::Relation(_)) {
+        if is_relation(node) {
             let rows = files.get(tables.len()).copied().unwrap_or(&[]);
             tables.push(file_of(alloc, node, rows)?)?;
         }
@@ -32,22 +45,38 @@ fn files_of(alloc: Global, graph: &Graph, files: &[&[&[u64]]]) -> Result<Vec<Tab
     Ok(tables)
 }
 
-fn run(alloc: Global, text: &[u8], files: &[&[&[u64]]]) -> Result<PlainRows, Fail> {
-    let graph = build(alloc, &read_query(alloc, text)?)?;
-    match World::new(&graph, files_of(alloc, &graph, files)?) {
-        Ok(world) => Ok(plain(alloc, &graph, &world)?),
+fn graph_of(alloc: Global, text: &[u8]) -> Result<Graph, Fail> {
+    Ok(build(alloc, &read_query(alloc, text)?)?)
+}
+
+fn world_of(alloc: Global, graph: &Graph, files: &[&[&[u64]]]) -> Result<World, Fail>
+    ensures { IfOk result (λ world. IsWorldOf graph.now.nodes (rows_of_tables world)) }
+{
+    match World::new(graph, files_of(alloc, graph, files)?) {
+        Ok(world) => Ok(world),
         Err(_) => Err("no world")?,
     }
 }
 
-// The last table's rows.
+fn run(alloc: Global, text: &[u8], files: &[&[&[u64]]]) -> Result<PlainRows, Fail> {
+    let graph = graph_of(alloc, text)?;
+    let world = world_of(alloc, &graph, files)?;
+    Ok(plain(alloc, &graph, &world)?)
+}
+
+fn has_rows(table: &Table, want: &[&[u64]]) -> bool {
+    for (number, row) in want.iter().enumerate() {
+        if number >= table.rows() || table.row(number) != *row {
+            return false;
+        }
+    }
+    table.rows() == want.len()
+}
+
+// Whether the last table has these rows.
 fn is_last(plain: &PlainRows, want: &[&[u64]]) -> bool {
     match plain.tables.as_slice().last() {
-        Some(table) => {
-            let mut rows = want.iter();
-            table.rows() == want.len()
-                && (0..table.rows()).all(|number| rows.next().copied() == Some(table.row(number)))
-        }
+        Some(table) => has_rows(table, want),
         None => false,
     }
 }
@@ -110,19 +139,25 @@ const BOUNDS: &[(&[u8], Option<u32>)] = &[
     ),
 ];
 
-// The first node above its bound, in a query with these statements.
-fn over(alloc: Global, statements: &[u8]) -> Result<Option<u32>, Fail> {
+fn text_of(alloc: Global, statements: &[u8]) -> Result<Vec<u8>, AllocError> {
     let mut text = Vec::new(alloc);
     text.extend_from_slice(b"relation r of 1 rows 4 (k num, v num)\n")?;
     text.extend_from_slice(statements)?;
     text.extend_from_slice(b"output n to 1\n")?;
-    Ok(run(alloc, &text, FOUR_ROWS)?.over)
+    Ok(text)
+}
+
+// Whether this is the first node above its bound, in a query with these statements.
+fn is_over(alloc: Global, statements: &[u8], wanted: Option<u32>) -> Result<bool, Fail> {
+    let text = text_of(alloc, statements)?;
+    let plain = run(alloc, &text, FOUR_ROWS)?;
+    Ok(plain.over == wanted)
 }
 
 // The first of the cases that ends elsewhere.
 fn first_other(alloc: Global, cases: &[(&[u8], Option<u32>)]) -> Result<Option<usize>, Fail> {
     for (index, (statements, wanted)) in cases.iter().enumerate() {
-        if over(alloc, statements)? != *wanted {
+        if !is_over(alloc, statements, *wanted)? {
             return Ok(Some(index));
         }
     }
@@ -138,7 +173,7 @@ fn ends_at_the_first_node_above_its_bound(rt: HostRuntime) -> Result<(), Fail> {
 #[test]
 fn gives_tables_back_that_are_no_world(rt: HostRuntime) -> Result<(), Fail> {
     let alloc = rt.alloc();
-    let graph = build(alloc, &read_query(alloc, SCORES)?)?;
+    let graph = graph_of(alloc, SCORES)?;
     let mut files = files_of(alloc, &graph, &[])?;
     let _ = files.pop();
     assert!(rt; World::new(&graph, files).is_err());

@@ -145,17 +145,25 @@ fn a_fault_has_its_place(rt: HostRuntime) {
     assert_eq!(rt; first_elsewhere(rt.alloc(), FAULTS), None);
 }
 
+// Whether so many copies are read, and with this behind them refused there.
+fn is_refused_behind(
+    alloc: Global,
+    part: &[u8],
+    copies: usize,
+    last: &[u8],
+    refused: (u32, u32),
+) -> Result<bool, Fail> {
+    let full = repeated(alloc, part, copies)?;
+    let more = joined(alloc, &[&full, last])?;
+    Ok(place(alloc, &full).is_none() && place(alloc, &more) == Some(refused))
+}
+
 #[test]
 fn a_text_has_its_limits(rt: HostRuntime) -> Result<(), Fail> {
-    let alloc = rt.alloc();
-    let full = repeated(alloc, b"output n to 1\n", 64)?;
-    assert_eq!(rt; place(alloc, &full), None);
-    let more = joined(alloc, &[&full, b"\n  relation relation"])?;
-    assert_eq!(rt; place(alloc, &more), Some((66, 3)));
-    let long = repeated(alloc, b" ", 65536)?;
-    assert_eq!(rt; place(alloc, &long), None);
-    let longer = joined(alloc, &[&long, b"!"])?;
-    assert_eq!(rt; place(alloc, &longer), Some((0, 0)));
+    let statement = b"output n to 1\n";
+    let last = b"\n  relation relation";
+    assert!(rt; is_refused_behind(rt.alloc(), statement, 64, last, (66, 3))?);
+    assert!(rt; is_refused_behind(rt.alloc(), b" ", 65536, b"!", (0, 0))?);
     Ok(())
 }
 
