@@ -10,6 +10,9 @@ use std::alloc::{AllocError, Global};
 use std::test::Fail;
 use wires::Tally;
 
+// AND words and AND calls.
+type Spent = (u64, u64);
+
 const ZEROS: [[u64; 3]; 5] = [[0; 3]; 5];
 
 // Of a filter with one test.
@@ -46,7 +49,7 @@ fn select_words(alloc: Global, rows: &[[u64; 3]], operation: Operation) -> Resul
 }
 
 // Of the table and itself one behind the other, and then zeroed.
-fn zeroed_words(alloc: Global, rows: &[[u64; 3]]) -> Result<u64, AllocError>
+fn zeroed_spends(alloc: Global, rows: &[[u64; 3]]) -> Result<Spent, AllocError>
     requires { length rows.now < 2 ^ 31 }
 {
     let mut wires = Tally::new(alloc);
@@ -55,26 +58,26 @@ fn zeroed_words(alloc: Global, rows: &[[u64; 3]]) -> Result<u64, AllocError>
     tables.push(table_of(&mut wires, alloc, rows)?)?;
     let both = joint_concat(&mut wires, &tables)?;
     let _made = zeroed(&mut wires, &both)?;
-    Ok(wires.and_words())
+    Ok((wires.and_words(), wires.and_calls()))
 }
 
 // Of a join with itself by both columns.
-fn join_words(alloc: Global, rows: &[[u64; 3]]) -> Result<u64, AllocError>
+fn join_spends(alloc: Global, rows: &[[u64; 3]]) -> Result<Spent, AllocError>
     requires { length rows.now < 2 ^ 16 }
 {
     let mut wires = Tally::new(alloc);
     let table = table_of(&mut wires, alloc, rows)?;
     let _made = join_by(&mut wires, &table, &table, &[(0, 0), (1, 1)])?;
-    Ok(wires.and_words())
+    Ok((wires.and_words(), wires.and_calls()))
 }
 
 // Of a group.
-fn group_words(
+fn group_spends(
     alloc: Global,
     rows: &[[u64; 3]],
     keys: &[u32],
     aggregates: &[Aggregate],
-) -> Result<u64, AllocError>
+) -> Result<Spent, AllocError>
     requires some { 0 < length rows.now }
     requires few { length rows.now < 2 ^ 32 }
     requires keys { HasColumns keys.now 2 }
@@ -83,17 +86,17 @@ fn group_words(
     let mut wires = Tally::new(alloc);
     let table = table_of(&mut wires, alloc, rows)?;
     let _made = group_by(&mut wires, &table, keys, aggregates)?;
-    Ok(wires.and_words())
+    Ok((wires.and_words(), wires.and_calls()))
 }
 
 // Of distinct rows.
-fn distinct_words(alloc: Global, rows: &[[u64; 3]]) -> Result<u64, AllocError>
+fn distinct_spends(alloc: Global, rows: &[[u64; 3]]) -> Result<Spent, AllocError>
     requires { length rows.now < 2 ^ 32 }
 {
     let mut wires = Tally::new(alloc);
     let table = table_of(&mut wires, alloc, rows)?;
     let _made = joint_distinct(&mut wires, &table)?;
-    Ok(wires.and_words())
+    Ok((wires.and_words(), wires.and_calls()))
 }
 
 // Each operation, the most AND words of it for a row and those that it takes.
@@ -145,40 +148,60 @@ fn and_words_of_each_comparison_and_item(rt: HostRuntime) -> Result<(), Fail> {
     Ok(())
 }
 
-// On so many rows, the most AND words of a join, three groups, distinct rows and a zeroed table twice as long, and those
-// that each takes.
-const OPERATORS: [(usize, [u64; 6], [u64; 6]); 3] = [
-    (1, [16, 11, 69, 55, 18, 4], [15, 9, 18, 2, 16, 4]),
-    (2, [64, 44, 276, 110, 72, 8], [60, 36, 116, 27, 64, 8]),
+// On so many rows, the most AND words of a join, three groups, distinct rows and a zeroed table twice as long, those that
+// each takes, and its AND calls, which rise with the logarithm of the rows alone.
+const OPERATORS: [(usize, [u64; 6], [Spent; 6]); 3] = [
+    (
+        1,
+        [16, 11, 69, 55, 18, 4],
+        [(15, 15), (9, 9), (18, 18), (2, 2), (16, 16), (4, 2)],
+    ),
+    (
+        2,
+        [64, 44, 276, 110, 72, 8],
+        [(60, 15), (36, 10), (116, 41), (27, 25), (64, 17), (8, 2)],
+    ),
     (
         5,
         [400, 275, 1725, 275, 450, 20],
-        [375, 225, 710, 66, 400, 20],
+        [
+            (375, 15),
+            (225, 12),
+            (710, 65),
+            (66, 49),
+            (400, 19),
+            (20, 2),
+        ],
     ),
 ];
 
-// The words of each of these operators.
-fn words_of_each(alloc: Global, rows: &[[u64; 3]]) -> Result<[u64; 6], AllocError>
+// What each of these operators takes.
+fn spent_by_each(alloc: Global, rows: &[[u64; 3]]) -> Result<[Spent; 6], AllocError>
     requires some { 0 < length rows.now }
     requires few { length rows.now < 2 ^ 16 }
 {
     let aggregates = [Aggregate::Sum(1), Aggregate::Count, Aggregate::Least(0)];
     Ok([
-        join_words(alloc, rows)?,
-        group_words(alloc, rows, &[0], &[])?,
-        group_words(alloc, rows, &[0, 1], &aggregates)?,
-        group_words(alloc, rows, &[], &aggregates)?,
-        distinct_words(alloc, rows)?,
-        zeroed_words(alloc, rows)?,
+        join_spends(alloc, rows)?,
+        group_spends(alloc, rows, &[0], &[])?,
+        group_spends(alloc, rows, &[0, 1], &aggregates)?,
+        group_spends(alloc, rows, &[], &aggregates)?,
+        distinct_spends(alloc, rows)?,
+        zeroed_spends(alloc, rows)?,
     ])
 }
 
 #[test]
-fn and_words_of_each_operator(rt: HostRuntime) -> Result<(), Fail> {
+fn and_words_and_calls_of_each_operator(rt: HostRuntime) -> Result<(), Fail> {
     for (count, most, taken) in OPERATORS {
-        let words = words_of_each(rt.alloc(), &ZEROS[..count])?;
-        assert_eq!(rt; words, taken);
-        assert!(rt; words.iter().zip(&most).all(|(words, most)| words <= most));
+        let spent = spent_by_each(rt.alloc(), &ZEROS[..count])?;
+        assert_eq!(rt; spent, taken);
+        assert!(rt;
+            spent
+                .iter()
+                .zip(&most)
+                .all(|(spent, most)| spent.0 <= *most)
+        );
     }
     Ok(())
 }
