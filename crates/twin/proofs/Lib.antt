@@ -35,3 +35,15 @@ pub mod Shown
 pub mod Whole
 pub mod AllSteps
 pub mod Answering
+pub mod Changes
+pub mod Counting
+pub mod Ahead
+pub mod Readied
+pub mod Turned
+pub mod Lengths
+pub mod Follow
+pub mod Revealing
+pub mod Steering
+pub mod Choosing
+pub mod Stepping
+pub mod Ending

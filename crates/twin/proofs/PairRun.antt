@@ -65,7 +65,7 @@ sent_same v x y m n a b e f h i =
 
 -- ---- tapes that are cut
 
-fits_count : (ns : List Need) (ds : List Draw) → FitsNeeds ns ds → length ds ≡ length ns
+pub fits_count : (ns : List Need) (ds : List Draw) → FitsNeeds ns ds → length ds ≡ length ns
 fits_count [] [] h = refl
 fits_count [] (d ∷ ds) h = absurd h
 fits_count (n ∷ ns) [] h = absurd h
@@ -81,19 +81,19 @@ seam_first n t rest e = subst (λ n. take n (t ++ rest) ≡ t) e (take-append_se
 seam_behind : (n : ℕ) (t rest : List Draw) → length t ≡ n → drop n (t ++ rest) ≡ rest
 seam_behind n t rest e = subst (λ n. drop n (t ++ rest) ≡ rest) e (drop-append_seam t rest)
 
-cut_first : (p : Party) (ns : Three (List Need)) (ds : ThreeTapes) (t rest : List Draw) → length t ≡ length (at p ns)
+pub cut_first : (p : Party) (ns : Three (List Need)) (ds : ThreeTapes) (t rest : List Draw) → length t ≡ length (at p ns)
     → taken ns (put p (t ++ rest) ds) ≡ put p t (taken ns ds)
 cut_first First ns ds t rest e = ap (λ x. put First x (taken ns ds)) (seam_first (length ns.first) t rest e)
 cut_first Second ns ds t rest e = ap (λ x. put Second x (taken ns ds)) (seam_first (length ns.second) t rest e)
 cut_first Third ns ds t rest e = ap (λ x. put Third x (taken ns ds)) (seam_first (length ns.third) t rest e)
 
-cut_behind : (p : Party) (ns : Three (List Need)) (ds : ThreeTapes) (t rest : List Draw) → length t ≡ length (at p ns)
+pub cut_behind : (p : Party) (ns : Three (List Need)) (ds : ThreeTapes) (t rest : List Draw) → length t ≡ length (at p ns)
     → dropped ns (put p (t ++ rest) ds) ≡ put p rest (dropped ns ds)
 cut_behind First ns ds t rest e = ap (λ x. put First x (dropped ns ds)) (seam_behind (length ns.first) t rest e)
 cut_behind Second ns ds t rest e = ap (λ x. put Second x (dropped ns ds)) (seam_behind (length ns.second) t rest e)
 cut_behind Third ns ds t rest e = ap (λ x. put Third x (dropped ns ds)) (seam_behind (length ns.third) t rest e)
 
-joined_again : (p : Party) (ns : Three (List Need)) (ds : ThreeTapes) → at p (taken ns ds) ++ at p (dropped ns ds) ≡ at p ds
+pub joined_again : (p : Party) (ns : Three (List Need)) (ds : ThreeTapes) → at p (taken ns ds) ++ at p (dropped ns ds) ≡ at p ds
 joined_again p ns ds =
     ap (λ x. x ++ at p (dropped ns ds)) (at-taken p ns ds)
     ∙ (ap (λ x. take (length (at p ns)) (at p ds) ++ x) (at-dropped p ns ds) ∙ take-append-drop (length (at p ns)) (at p ds))

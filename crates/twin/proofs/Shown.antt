@@ -42,7 +42,7 @@ shows_seen v l m o (Tell source target s) h = ap (λ xs. only (same_party v (par
 shows_seen v l m o (Work p task takes gives) h = refl
 shows_seen v l m o (Flag p s) h = ap (λ xs. Flagged (item (at (party_of p) xs) s) ∷ []) h.slots
 
-going_seen : {T : Type 0} (v : Party) (l : Layout) (m : Machine) (o : Open) (s : Step T) (ds : ThreeTapes) → Opens m o → shows_going v l m s ds ≡ seen_going v l o s ds
+pub going_seen : {T : Type 0} (v : Party) (l : Layout) (m : Machine) (o : Open) (s : Step T) (ds : ThreeTapes) → Opens m o → shows_going v l m s ds ≡ seen_going v l o s ds
 going_seen v l m o s ds h = ap (λ b. if b then [] else shows v l m s) h.stop ∙ ap (λ x. if o.stop then [] else x) (shows_seen v l m o s h)
 
 -- ---- fronts
@@ -70,7 +70,7 @@ front_fine accepts k list h = record { small = h.small; fine = fine_front accept
 
 module _ {T : Type 0} (accepts : T → List Shape → List Shape → Bool) (answer : T → List (List ℕ) → List (List ℕ)) where
   -- where the machine opens to the open values at each front
-  shown_seen : (v : Party) (l : Layout) (ss : List (Step T)) (m : Machine) (o : Open) (ds : ThreeTapes)
+  pub shown_seen : (v : Party) (l : Layout) (ss : List (Step T)) (m : Machine) (o : Open) (ds : ThreeTapes)
       → ((k : ℕ) → Opens (run (joint_going answer) tape_cut l m (take k ss) ds) (run (open_going answer) tape_cut l o (take k ss) ds))
       → outs (joint_going answer) (shows_going v) tape_cut l m ss ds ≡ seen_from answer v l o ss ds
   shown_seen v l [] m o ds h = refl

@@ -1,40 +1,24 @@
 -- What has to hold of each kind of step.
-use Rattle.std.proofs.Common.{◌≡◌, ℕ, Bool, List, [], ◌∷◌}
+use Rattle.std.proofs.Common.{◌≡◌, ℕ, Bool, List}
 use Rattle.std.specs.Prelude.{IsTrue}
 use Rattle.lanes.specs.declared.party.Party.{Party}
 use Rattle.lanes.specs.Party.{before}
-use Rattle.lanes.specs.Three.{at, put}
+use Rattle.lanes.specs.Three.{at}
 use Rattle.tapes.specs.Needs.{FitsNeeds}
 use Rattle.step_lists.specs.declared.step.Shape.{Shape}
 use Rattle.step_lists.specs.declared.step.Step.{Step}
-use Rattle.step_lists.specs.declared.step.Step.TheVariants.{Const, Lin, And, Share, Reveal, Steer, Tell, Work, Flag}
-use Rattle.step_lists.specs.Layout.{Layout, party_of, grown, rows_moved}
+use Rattle.step_lists.specs.Layout.{Layout, grown}
 use Rattle.step_lists.specs.Rules.{fits_layout}
 use Rattle.step_lists.specs.Draws.{ThreeTapes, needs_of}
-use Rattle.step_lists.specs.Seen.{Seen, Rows, Told, Flagged, AreAlike, same_party, only}
-use Rattle.step_lists.specs.Machine.{Machine, slot_of, machine_step, step_words}
-use Rattle.step_lists.specs.Twin.{open_rows, twin_draws}
+use Rattle.step_lists.specs.Seen.{AreAlike}
+use Rattle.step_lists.specs.Machine.{Machine, machine_step, step_words}
+use Rattle.step_lists.specs.Twin.{twin_draws}
+pub use Rattle.twin.specs.Passing.{shows, twin_drawn}
 use Rattle.twin.proofs.Same.{Fitting, SameHere, SameWords}
 
 -- the draws of a step
 abbrev pub AreDrawsOf : {T : Type 0} → Layout → Step T → ThreeTapes → Type 0
 AreDrawsOf l s ds = (p : Party) → FitsNeeds (at p (needs_of l s)) (at p ds)
-
--- the three tapes with the twin's draws of a step
-abbrev pub twin_drawn : {T : Type 0} → Party → Layout → Machine → Machine → Step T → ThreeTapes → ThreeTapes
-twin_drawn v l x y s ds = put (before v) (twin_draws v l x y s ds) ds
-
--- what a machine shows a party in a step
-abbrev pub shows : {T : Type 0} → Party → Layout → Machine → Step T → List Seen
-shows v l m (Const words) = []
-shows v l m (Lin op) = []
-shows v l m (And left right) = []
-shows v l m (Share party s) = []
-shows v l m (Reveal to moved shown) = only (same_party v (party_of to)) (Rows (open_rows m (rows_moved l moved) moved shown))
-shows v l m (Steer by s moved) = []
-shows v l m (Tell source target s) = only (same_party v (party_of target)) (Told (slot_of m (party_of source) s))
-shows v l m (Work party task takes gives) = []
-shows v l m (Flag party s) = Flagged (slot_of m (party_of party) s) ∷ []
 
 module _ {T : Type 0} (accepts : T → List Shape → List Shape → Bool) (answer : T → List (List ℕ) → List (List ℕ)) where
   -- a step that the layout allows, and its draws

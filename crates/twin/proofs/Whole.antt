@@ -27,7 +27,7 @@ use Rattle.twin.proofs.FitRun.{FitsGoing, left_twin}
 use Rattle.twin.proofs.PairRun.{SameAll, pair_run}
 use Rattle.twin.proofs.Shown.{shows_are_seen}
 
-starts_fit : (first : Three (List ℕ)) (slots : SlotWords) → SlotsFit first slots → FitsGoing (starting first) (before_steps slots)
+pub starts_fit : (first : Three (List ℕ)) (slots : SlotWords) → SlotsFit first slots → FitsGoing (starting first) (before_steps slots)
 starts_fit first slots h e = record { registers = tt; slots = slots_of } where
   shapes_of : (ns : List ℕ) (xs : List (List ℕ)) → map length xs ≡ ns → AllByRecursion AreWords xs → HaveShapes (map shapes.Words ns) xs
   shapes_of [] [] e h = tt

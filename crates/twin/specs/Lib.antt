@@ -1,4 +1,12 @@
+pub mod Facts
 pub mod Fits
 pub mod Pairs
 pub mod Alike
 pub mod Apart
+pub mod Called
+pub mod Changing
+pub mod Compared
+pub mod Passing
+pub mod Revealed
+pub mod Steered
+pub mod Turning

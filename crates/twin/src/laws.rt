@@ -1,5 +1,6 @@
 //! The laws of the twin. Each function does nothing, and its contract is the law.
 ghost use Rattle.twin.specs.Alike.{TwinOfAlike, TwinsDiffer};
+ghost use Rattle.twin.specs.Facts.{Facts};
 ghost use Rattle.twin.specs.Fits.{TwinFits};
 ghost use Rattle.twin.specs.Pairs.{TwinPairs};
 
@@ -8,10 +9,9 @@ use lanes::{item_laws, lane_laws, shared_and_laws, xor_laws};
 use step_lists::Task;
 use tapes::{align_laws, need_laws, order_laws, row_laws};
 
-// what both of the first two laws come from
-fn worlds_step_by_step<T: Task>()
-    ensures fits { TwinFits T.accepts T.answer }
-    ensures pairs { TwinPairs T.accepts T.answer }
+/// The laws of the crates below, in one record.
+pub(crate) fn facts()
+    ensures { Facts }
 {
     lane_laws();
     item_laws();
@@ -23,6 +23,14 @@ fn worlds_step_by_step<T: Task>()
     need_laws();
     bags::laws::bags_are_equivalence();
     bags::laws::bags_keep_rows();
+}
+
+// what both of the first two laws come from
+fn worlds_step_by_step<T: Task>()
+    ensures fits { TwinFits T.accepts T.answer }
+    ensures pairs { TwinPairs T.accepts T.answer }
+{
+    facts();
     opened_laws::<T>();
 }
 
