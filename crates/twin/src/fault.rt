@@ -37,6 +37,14 @@ impl Rows {
     {
         &self.rows
     }
+
+    /// The rows in a vector, with no copy.
+    pub fn into_rows(self) -> Vec<Vec<u64>>
+        ensures { word_lists result ≡ self }
+    {
+        let Rows { rows } = self;
+        rows
+    }
 }
 
 /// Why a tape has no twin.

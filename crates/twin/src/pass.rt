@@ -15,7 +15,7 @@ use crate::worlds::Worlds;
 use lanes::{Party, Three};
 use std::alloc::Global;
 use step_lists::{Step, Task};
-use tapes::{Tape, Tapes, need_laws};
+use tapes::{Tape, Tapes};
 
 /// Two worlds before a step, where its draws begin on the three tapes, and the twin so far.
 #[derive(Drop)]
@@ -58,7 +58,6 @@ impl Pass {
         ensures fault { IfErr result (λ fault. (l : Layout) → AreReady T.accepts viewer l step.now self.old.worlds.one self.old.worlds.other (left_at self.old.places (draws_of tapes.now))
             → IsStepFault viewer l step.now self.old.worlds.one self.old.worlds.other number fault) }
     {
-        need_laws();
         let unseen = viewer.before();
         let counts = count_draws(&self.worlds.one, step)?;
         let mut readers = readers_at(tapes, &self.places);

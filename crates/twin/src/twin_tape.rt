@@ -50,6 +50,7 @@ pub fn twin<T: Task>(
     // Its contract says that each register is shorter than 2^32 words.
     let _ = list.registers();
     let viewer = party_of(viewer);
+    let unseen = tape_of(tapes, viewer.before());
     let mut pass = Pass {
         worlds: Worlds {
             one: start(alloc, slots)?,
@@ -60,7 +61,7 @@ pub fn twin<T: Task>(
             second: 0,
             third: 0,
         },
-        made: Tape::with_room(alloc, 0)?,
+        made: Tape::with_room(alloc, unseen.len())?,
     };
     let steps = list.steps().as_slice();
     for number in 0..steps.len() {
@@ -68,12 +69,7 @@ pub fn twin<T: Task>(
             pass.take_step(alloc, viewer, number as u64, &steps[number], tapes)?;
         }
     }
-    let unseen = viewer.before();
-    push_kept(
-        alloc,
-        tape_of(tapes, unseen),
-        *pass.places.at(unseen),
-        &mut pass.made,
-    )?;
+    let place = *pass.places.at(viewer.before());
+    push_kept(alloc, unseen, place, &mut pass.made)?;
     Ok(pass.made)
 }

@@ -180,11 +180,10 @@ returns-clause-twin g c =
     let le = subst (λ xs. length xs ≤ k) e c.loop-number-test.false in
     let behind = subst (λ ss. IsBehind accepts answer v l0 x0 y0 steps ds k ss x y left made) (drop_all k steps le) c.loop-number.invariant.behind in
     let ended = ahead_end accepts answer facts holds v l0 x0 y0 steps ds k x y left made behind in
-    let u : c.before-unseen.result ≡ before v = c.before-unseen.ensures in
     let places = c.loop-number.pass.places in
     c.in_ok-push_kept.ensures
-    ∙ (ap (λ t. made ++ drop c.at.result.now t) (c.tape_of.ensures ∙ ap (λ (p : Party). at p ds) u)
-    ∙ (ap (λ n. made ++ drop n (at (before v) ds)) (c.at.ensures ∙ ap (λ (p : Party). at p places) u)
+    ∙ (ap (λ t. made ++ drop c.at-place.result.now t) (c.tape_of-unseen.ensures ∙ ap (λ (p : Party). at p ds) c.before-2.ensures)
+    ∙ (ap (λ n. made ++ drop n (at (before v) ds)) (c.at-place.ensures ∙ ap (λ (p : Party). at p places) c.before-3.ensures)
     ∙ (ap (λ t. made ++ t) (sym (at_left (before v) places ds))
     ∙ (sym ended.twin ∙ ap (λ (p : Party). twin_tape answer p list c.args.slots.now c.args.other.now ds) c.party_of-viewer.ensures))))
 
