@@ -1,0 +1,14 @@
+pub mod Elements
+pub mod Rows
+pub mod FirstFit
+pub mod Tracing
+pub mod Holding
+pub mod Placing
+pub mod Sharing
+pub mod Relating
+pub mod Working
+pub mod Segmenting
+pub mod Operating
+pub mod Finishing
+pub mod Revealing
+pub mod Outputting

@@ -1,0 +1,16 @@
+pub mod Costs
+pub mod Unbuilt
+pub mod Refusals
+pub mod Accepted
+pub mod Lines
+pub mod RefusalLines
+pub mod FirstSlots
+pub mod Trace
+pub mod Want
+pub mod Stored
+pub mod Segments
+pub mod Lowered
+pub mod Plan
+pub mod PlanInside
+pub mod Compiled
+pub mod Pieces
