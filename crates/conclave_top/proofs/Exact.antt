@@ -6,7 +6,7 @@ use Rattle.conclave_top.specs.Command.{Command, command_of}
 use Rattle.conclave_top.specs.Due.{Due}
 use Rattle.conclave_top.specs.Job.{Job}
 use Rattle.conclave_top.specs.Jobs.{IsDue, statuses_of}
-use Rattle.conclave_top.specs.Laws.{Came, Comes, OneDue, ReadyIsDone, Run, StatusesAreExact, files_of}
+use Rattle.conclave_top.specs.Laws.{Came, Comes, OneDue, ReadyIsDone, Run, StatusesAreExact, told_files}
 use Rattle.conclave_top.specs.Outcome.{JobOutcome, OutcomeOf, Settles}
 use Rattle.conclave_top.specs.Outside.{Outside, HasFailed}
 use Rattle.conclave_top.proofs.Dues.{ready_due}
@@ -15,8 +15,8 @@ use Rattle.conclave_top.proofs.FairJobs.{IsFair, JobOf, failed_listed, job_of, m
 pub outcome_of : (words : List (List ℕ)) (command : Command) (old new : Outside) (status : ℕ) → Run words command old new status → OutcomeOf (Some command) old new status
 outcome_of words command old new status run = subst (λ c. OutcomeOf c old new status) run.form run.outcome
 
-pub run_job : (words : List (List ℕ)) (command : Command) (old new : Outside) (status : ℕ) → Run words command old new status → JobOf (files_of old) command (λ job. JobOutcome job old new status)
-run_job words command old new status run = job_of (files_of old) command (λ job. JobOutcome job old new status) (outcome_of words command old new status run)
+pub run_job : (words : List (List ℕ)) (command : Command) (old new : Outside) (status : ℕ) → Run words command old new status → JobOf (told_files old) command (λ job. JobOutcome job old new status)
+run_job words command old new status run = job_of (told_files old) command (λ job. JobOutcome job old new status) (outcome_of words command old new status run)
 
 apart : (status m n : ℕ) → status ≡ m → status ≡ n → (m ≡ n → ⊥) → ⊥
 apart status m n first second not = not (sym first ∙ second)
@@ -35,14 +35,14 @@ comes_for job old new status due same (inr (inl failed)) = inr (inl (failed.stat
 comes_for job old new status due same (inr (inr memory)) = inr (inr memory.memory.status_is)
 
 comes : OneDue → (words : List (List ℕ)) (command : Command) (files : Files) (old new : Outside) (status : ℕ) (due : Due) → Run words command old new status
-    → files_of old ≡ Some files → IsDue (Some files) command due → Comes (Settles due old new status) old new status
+    → told_files old ≡ Some files → IsDue (Some files) command due → Comes (Settles due old new status) old new status
 comes one words command files old new status due run told is_due =
     let of = run_job words command old new status run in
     comes_for of.job old new status due
     (λ other is. one.for_a_command files command other due (subst (λ fs. IsDue fs command other) told (of.due other is)) is_due) of.is
 
 -- and nothing else does
-only_for : (command : Command) (job : Job) (old new : Outside) (status : ℕ) → ((due : Due) → job.due due → IsDue (files_of old) command due)
+only_for : (command : Command) (job : Job) (old new : Outside) (status : ℕ) → ((due : Due) → job.due due → IsDue (told_files old) command due)
     → (status ≡ 8 → ⊥) → (status ≡ 9 → ⊥) → JobOutcome job old new status → Came command old new status
 only_for command job old new status within eight nine (inl settled) = record { due = settled.due; is_due = within settled.due settled.is_due; settles = settled.settles }
 only_for command job old new status within eight nine (inr (inl failed)) = absurd (eight failed.status_is)
@@ -68,7 +68,7 @@ no_usage command job old new status fair is (inr (inr memory)) = apart status 1 
 usage_only_of : (command : Option Command) (old new : Outside) (status : ℕ) → OutcomeOf command old new status → status ≡ 1 → command ≡ None
 usage_only_of None old new status outcome is = refl
 usage_only_of (Some command) old new status outcome is =
-    let of = job_of (files_of old) command (λ job. JobOutcome job old new status) outcome in
+    let of = job_of (told_files old) command (λ job. JobOutcome job old new status) outcome in
     absurd (no_usage command of.job old new status of.fair is of.is)
 
 failed_for : (command : Command) (job : Job) (old new : Outside) (status : ℕ) → ((due : Due) → job.due due → IsFair (statuses_of command) job.reads due) → status ≡ 8 → JobOutcome job old new status
@@ -82,7 +82,7 @@ failed_only_of : (command : Option Command) (old new : Outside) (status : ℕ) �
 failed_only_of None old new status (inl settled) is = absurd (apart status 1 8 (settled.settles.status_is ∙ ap (λ (due : Due). due.status) settled.is_due) is (λ e. cc))
 failed_only_of None old new status (inr memory) is = absurd (apart status 8 9 is memory.memory.status_is (λ e. cc))
 failed_only_of (Some command) old new status outcome is =
-    let of = job_of (files_of old) command (λ job. JobOutcome job old new status) outcome in
+    let of = job_of (told_files old) command (λ job. JobOutcome job old new status) outcome in
     failed_for command of.job old new status of.fair is of.is
 
 pub statuses_are_exact : OneDue → StatusesAreExact

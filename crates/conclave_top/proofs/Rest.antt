@@ -11,7 +11,7 @@ use Rattle.conclave_top.specs.Due.{Due, names_of, usage}
 use Rattle.conclave_top.specs.Effect.{IsReading, IsWriting, Written}
 use Rattle.conclave_top.specs.Job.{Job, only}
 use Rattle.conclave_top.specs.Jobs.{statuses_of}
-use Rattle.conclave_top.specs.Laws.{CallsAreFronts, LeavesTheRest, ReadsComeFirst, bytes_at, files_of}
+use Rattle.conclave_top.specs.Laws.{CallsAreFronts, LeavesTheRest, ReadsComeFirst, bytes_at, told_files}
 use Rattle.conclave_top.specs.Outcome.{JobOutcome, OutcomeOf}
 use Rattle.conclave_top.specs.Outside.{FolderState, Outside, StreamState, Tells, gained}
 use Rattle.conclave_top.proofs.Exact.{outcome_of}
@@ -33,7 +33,7 @@ unprinted_of : (command : Option Command) (old new : Outside) (status : ℕ) →
 unprinted_of None old new status (inl settled) not = gained_none settled.due.output old.ports.out new.ports.out (ap (λ (due : Due). due.output) settled.is_due) settled.settles.done.out
 unprinted_of None old new status (inr memory) not = memory.left.out
 unprinted_of (Some command) old new status outcome not =
-    let of = job_of (files_of old) command (λ job. JobOutcome job old new status) outcome in
+    let of = job_of (told_files old) command (λ job. JobOutcome job old new status) outcome in
     unprinted_for (statuses_of command) of.job old new status of.fair not of.is
 
 -- the stream for errors
@@ -54,7 +54,7 @@ silent_of : (command : Option Command) (old new : Outside) (status : ℕ) → Ou
 silent_of None old new status (inl settled) zero = absurd (apart status 0 1 zero (settled.settles.status_is ∙ ap (λ (due : Due). due.status) settled.is_due) (λ e. cc))
 silent_of None old new status (inr memory) zero = absurd (apart status 0 9 zero memory.memory.status_is (λ e. cc))
 silent_of (Some command) old new status outcome zero =
-    let of = job_of (files_of old) command (λ job. JobOutcome job old new status) outcome in
+    let of = job_of (told_files old) command (λ job. JobOutcome job old new status) outcome in
     silent_for (statuses_of command) of.job old new status of.fair zero of.is
 
 -- a file whose name isn't written
@@ -103,7 +103,7 @@ left_bytes name job old new unwritten (inr writing) =
     written_bytes name writing.cut.written old new
     (front_none name writing.due.writes writing.cut.written writing.cut.left writing.cut.front (unwritten writing.due writing.is_due)) writing.cut.files
 
-unwritten_for : (name : List ℕ) (job : Job) (old new : Outside) (status : ℕ) → JobOutcome job old new status → IsUnwritten name job → bytes_at name (files_of new) ≡ bytes_at name (files_of old)
+unwritten_for : (name : List ℕ) (job : Job) (old new : Outside) (status : ℕ) → JobOutcome job old new status → IsUnwritten name job → bytes_at name (told_files new) ≡ bytes_at name (told_files old)
 unwritten_for name job old new status (inl settled) unwritten =
     written_bytes name settled.due.writes old.ports.folder new.ports.folder (unwritten settled.due settled.is_due) settled.settles.done.files
 unwritten_for name job old new status (inr (inl failed)) unwritten = left_bytes name job old.ports.folder new.ports.folder unwritten failed.left.at
@@ -122,7 +122,7 @@ kept_left job old new none (inl reading) = reading.files
 kept_left job old new none (inr writing) =
     kept_none writing.cut.written old new (nothing_first writing.due.writes writing.cut.written writing.cut.left writing.cut.front (none writing.due writing.is_due)) writing.cut.files
 
-kept_for : (job : Job) (old new : Outside) (status : ℕ) → ((due : Due) → job.due due → due.writes ≡ []) → JobOutcome job old new status → files_of new ≡ files_of old
+kept_for : (job : Job) (old new : Outside) (status : ℕ) → ((due : Due) → job.due due → due.writes ≡ []) → JobOutcome job old new status → told_files new ≡ told_files old
 kept_for job old new status none (inl settled) = kept_none settled.due.writes old.ports.folder new.ports.folder (none settled.due settled.is_due) settled.settles.done.files
 kept_for job old new status none (inr (inl failed)) = kept_left job old.ports.folder new.ports.folder none failed.left.at
 kept_for job old new status none (inr (inr memory)) = kept_left job old.ports.folder new.ports.folder none memory.left.at
@@ -131,10 +131,10 @@ usage_outcome : (old new : Outside) (status : ℕ) → OutcomeOf None old new st
 usage_outcome old new status (inl settled) = inl settled
 usage_outcome old new status (inr memory) = inr (inr memory)
 
-kept_of : (command : Option Command) (old new : Outside) (status : ℕ) → OutcomeOf command old new status → files_of new ≡ files_of old
+kept_of : (command : Option Command) (old new : Outside) (status : ℕ) → OutcomeOf command old new status → told_files new ≡ told_files old
 kept_of None old new status outcome = kept_for (only usage) old new status (λ due is. ap (λ (d : Due). d.writes) is) (usage_outcome old new status outcome)
 kept_of (Some command) old new status outcome =
-    let of = job_of (files_of old) command (λ job. JobOutcome job old new status) outcome in
+    let of = job_of (told_files old) command (λ job. JobOutcome job old new status) outcome in
     kept_for of.job old new status (λ due is. (of.fair due is).kept) of.is
 
 -- the names called: all that are read and those of the first files, and of the next, if its write failed
@@ -183,7 +183,7 @@ fronts_for job old new status reads (inr (inr memory)) = fronts_at job old new r
 
 pub reads_come_first : ReadsComeFirst
 reads_come_first words command old new status run =
-    has_fair_job (files_of old) command (λ job. JobOutcome job old new status) (λ job. CallsAreFronts job old new)
+    has_fair_job (told_files old) command (λ job. JobOutcome job old new status) (λ job. CallsAreFronts job old new)
     (λ job fair outcome. fronts_for job old new status (λ due is. (fair due is).reads) outcome) (outcome_of words command old new status run)
 
 no_writes : (job : Job) → ((due : Due) → job.due due → due.writes ≡ []) → (writes : List (List ℕ)) → ((writes ≡ []) ⊎ ((due : Due) × (job.due due × (writes ≡ names_of due.writes)))) → writes ≡ []
@@ -207,7 +207,7 @@ leaves_the_rest = record {
   unprinted = λ words old new status outcome not. unprinted_of (command_of words) old new status outcome not;
   silent = λ words old new status outcome zero. silent_of (command_of words) old new status outcome zero;
   unwritten = λ words command old new status name run.
-      has_job (files_of old) command (λ job. JobOutcome job old new status) (λ job. IsUnwritten name job → bytes_at name (files_of new) ≡ bytes_at name (files_of old))
+      has_job (told_files old) command (λ job. JobOutcome job old new status) (λ job. IsUnwritten name job → bytes_at name (told_files new) ≡ bytes_at name (told_files old))
       (λ job outcome unwritten. unwritten_for name job old new status outcome unwritten) (outcome_of words command old new status run);
   kept = λ words old new status outcome. kept_of (command_of words) old new status outcome;
   uncalled = λ words old new status outcome none. uncalled_of (command_of words) old new status outcome none;

@@ -18,8 +18,8 @@ use Rattle.conclave_top.specs.Plain.{answered, graph_files, tables_in}
 use Rattle.conclave_top.specs.PlanText.{plan_text}
 
 -- the files that a folder tells at this moment
-abbrev pub files_of : Outside → Option Files
-files_of outside = outside.ports.folder.files
+abbrev pub told_files : Outside → Option Files
+told_files outside = outside.ports.folder.files
 
 -- the bytes under a name, where the files are told
 abbrev pub bytes_at : List ℕ → Option Files → Option (Option (List ℕ))
@@ -37,7 +37,7 @@ Comes due old new status = due ⊎ (((status ≡ 8) × HasFailed old.ports new.p
 -- an outcome that was due came
 pub record Came (command : Command) (old new : Outside) (status : ℕ) : Type 0 where
   pub due : Due
-  pub is_due : IsDue (files_of old) command due
+  pub is_due : IsDue (told_files old) command due
   pub settles : Settles due old new status
 
 -- over a folder that tells its files one outcome at most is due: for a job, and for a command, since its text is refused
@@ -66,7 +66,7 @@ pub record StatusesAreExact : Type 0 where
   pub usage_only : (words : List (List ℕ)) (old new : Outside) (status : ℕ) → Outcome words old new status → status ≡ 1 → command_of words ≡ None
   -- what is due comes, over a folder that tells its files
   pub comes : (words : List (List ℕ)) (command : Command) (files : Files) (old new : Outside) (status : ℕ) (due : Due) → Run words command old new status
-      → files_of old ≡ Some files → IsDue (Some files) command due → Comes (Settles due old new status) old new status
+      → told_files old ≡ Some files → IsDue (Some files) command due → Comes (Settles due old new status) old new status
   -- and nothing else does
   pub only : (words : List (List ℕ)) (command : Command) (old new : Outside) (status : ℕ) → Run words command old new status
       → (status ≡ 8 → ⊥) → (status ≡ 9 → ⊥) → Came command old new status
@@ -77,7 +77,7 @@ pub record StatusesAreExact : Type 0 where
 -- where it is ready: its query is compiled, and for `plain` has no bound and its relations' files are tables
 abbrev pub ReadyIsDone : Type 0
 ReadyIsDone = (words : List (List ℕ)) (command : Command) (files : Files) (old new : Outside) (status : ℕ) → Run words command old new status
-    → files_of old ≡ Some files → IsReady (Some files) command → Comes (status ≡ 0) old new status
+    → told_files old ≡ Some files → IsReady (Some files) command → Comes (status ≡ 0) old new status
 
 -- the names called are the first of those that are read, or all of them and then the first of those that are written
 pub record CallsAreFronts (job : Job) (old new : Outside) : Type 0 where
@@ -90,7 +90,7 @@ pub record CallsAreFronts (job : Job) (old new : Outside) : Type 0 where
 
 abbrev pub ReadsComeFirst : Type 0
 ReadsComeFirst = (words : List (List ℕ)) (command : Command) (old new : Outside) (status : ℕ) → Run words command old new status
-    → HasJob (files_of old) command (λ job. CallsAreFronts job old new)
+    → HasJob (told_files old) command (λ job. CallsAreFronts job old new)
 
 -- what a run leaves as it was
 pub record LeavesTheRest : Type 0 where
@@ -99,7 +99,7 @@ pub record LeavesTheRest : Type 0 where
   pub silent : (words : List (List ℕ)) (old new : Outside) (status : ℕ) → Outcome words old new status → status ≡ 0 → new.err.taken ≡ old.err.taken
   -- each file that no outcome of the command's job writes
   pub unwritten : (words : List (List ℕ)) (command : Command) (old new : Outside) (status : ℕ) (name : List ℕ) → Run words command old new status
-      → HasJob (files_of old) command (λ job. ((due : Due) → job.due due → list_any (λ written. bytes_eq written name) (names_of due.writes) ≡ false) → bytes_at name (files_of new) ≡ bytes_at name (files_of old))
+      → HasJob (told_files old) command (λ job. ((due : Due) → job.due due → list_any (λ written. bytes_eq written name) (names_of due.writes) ≡ false) → bytes_at name (told_files new) ≡ bytes_at name (told_files old))
   -- for `plain` and `plan` these are all, and so they are where the words are no command
-  pub kept : (words : List (List ℕ)) (old new : Outside) (status : ℕ) → Outcome words old new status → files_of new ≡ files_of old
+  pub kept : (words : List (List ℕ)) (old new : Outside) (status : ℕ) → Outcome words old new status → told_files new ≡ told_files old
   pub uncalled : (words : List (List ℕ)) (old new : Outside) (status : ℕ) → Outcome words old new status → command_of words ≡ None → new.ports.folder.calls ≡ old.ports.folder.calls

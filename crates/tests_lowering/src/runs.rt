@@ -38,7 +38,12 @@ fn columns_of(rt: &HostRuntime, columns: &[Column]) -> Result<Vec<Column>, Fail>
 }
 
 // All slots of a party behind a run.
-fn slots_of(rt: &HostRuntime, plan: &Plan, run: &JointRun, party: u8) -> Result<Vec<Vec<u64>>, Fail> {
+fn slots_of(
+    rt: &HostRuntime,
+    plan: &Plan,
+    run: &JointRun,
+    party: u8,
+) -> Result<Vec<Vec<u64>>, Fail> {
     let mut slots = Vec::new(rt.alloc());
     for slot in 0..plan.list().slots(party) {
         slots.push(run.slot(party, slot).ok_or("no slot")?.clone()?)?;
