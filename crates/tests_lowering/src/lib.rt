@@ -7,4 +7,6 @@
 #[cfg(test)]
 mod compile_tests;
 #[cfg(test)]
+mod refusal_tests;
+#[cfg(test)]
 mod runs;
