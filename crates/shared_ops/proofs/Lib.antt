@@ -1,5 +1,6 @@
 pub mod Aggregating
 pub mod Appending
+pub mod Called
 pub mod Elements
 pub mod Filters
 pub mod FirstTables

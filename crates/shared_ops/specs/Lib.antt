@@ -6,4 +6,5 @@ pub mod Lanes
 pub mod NodeLaws
 pub mod Nodes
 pub mod Pairs
+pub mod Rounds
 pub mod Wired

@@ -1,4 +1,4 @@
--- The operator of a node on joint tables: what it asks of its sources, what it makes of them, and its most AND words.
+-- The operator of a node on joint tables: what it asks of its sources, what it makes of them, and its most AND words and AND calls.
 use Rattle.std.specs.Prelude.{◌≡◌, ℕ, Bool, true, false, IsSomeAnd, List, All, length, map, slice_index}
 use Rattle.std.specs.Option.{option_map_or}
 use Rattle.wires.specs.Environment.{Environment}
@@ -12,6 +12,7 @@ use Rattle.plain_meaning.specs.Operators.{operator_of}
 use Rattle.shared_ops.specs.declared.joint.Joint.{Joint}
 use Rattle.shared_ops.specs.Costs.{operator_cost}
 use Rattle.shared_ops.specs.Joint.{AllBits, Makes, joint_rows}
+use Rattle.shared_ops.specs.Rounds.{operator_calls}
 
 -- how many rows, and how many columns, each of several tables has
 abbrev pub sizes_of : List Joint → List ℕ
@@ -43,9 +44,12 @@ FitsNode node widths = IsSomeAnd (operator_of node) (λ operator. FitsSources op
 abbrev pub MakesNode : (Environment → Type 0) → List ℕ → Joint → Operator → List Joint → Type 0
 MakesNode possible shape t node tables = IsSomeAnd (operator_of node) (λ operator. MakesOf possible shape t operator tables)
 
--- its most AND words, and none for a relation
+-- its most AND words and its most AND calls, and none for a relation
 abbrev pub node_cost : Operator → List ℕ → List ℕ → ℕ
 node_cost node sizes widths = option_map_or (λ operator. operator_cost operator sizes widths) (operator_of node) 0
+
+abbrev pub node_calls : Operator → List ℕ → List ℕ → ℕ
+node_calls node sizes widths = option_map_or (λ operator. operator_calls operator sizes widths) (operator_of node) 0
 
 -- ---- which operator a node has
 

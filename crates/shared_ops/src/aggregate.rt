@@ -2,8 +2,10 @@
 
 ghost use Rattle.std.specs.Prelude.{◌≡◌, ◌+◌, ◌*◌, ◌^◌, ◌<◌, ◌≤◌, length, IfOk};
 ghost use Rattle.lanes.specs.Lanes.{lanewise, picked};
+ghost use Rattle.lanes.specs.Logarithm.{ceil_log2};
 ghost use Rattle.wires.specs.Environment.{words};
 ghost use Rattle.wires.specs.Growth.{Carries, Grows};
+ghost use Rattle.circuits.specs.BlockCosts.{blocks_calls};
 ghost use Rattle.circuits.specs.Blocks.{blocks_folded};
 ghost use Rattle.circuits.specs.Folds.{combined_word, masked_word};
 ghost use Rattle.circuits.specs.declared.folds.Fold.TheVariants.{Sum};
@@ -11,6 +13,7 @@ ghost use Rattle.plain_operators.specs.Within.{AreAggregatesOf, IsAggregateOf};
 ghost use Rattle.shared_ops.specs.Groups.{AreBlocks, aggregate_lanes, numbered_lanes};
 ghost use Rattle.shared_ops.specs.Joint.{IsJoint, IsWide, column_words};
 ghost use Rattle.shared_ops.specs.Pairs.{left_places};
+ghost use Rattle.shared_ops.specs.Rounds.{aggregate_calls, aggregates_calls};
 ghost use Rattle.shared_ops.specs.Wired.{AreWired};
 
 use crate::joint::Joint;
@@ -66,6 +69,7 @@ fn folded_column<W: Wires>(
         (λ v. blocks_folded (combined_word fold) blocks.now.rows blocks.now.width
         (lanewise (masked_word fold) (words v blocks.now.flags) (picked (left_places blocks.now.rows blocks.now.width) (words v column))))) }
     ensures cost { W.ands wires.new ≤ W.ands wires.old + 17 * (blocks.now.rows * blocks.now.width) }
+    ensures calls { W.and_calls wires.new ≤ W.and_calls wires.old + (blocks_calls fold (ceil_log2 blocks.now.rows) + 1) }
 {
     // Law: the row of a place of a table.
     lanes::table_laws();
@@ -90,6 +94,7 @@ fn counted<W: Wires>(wires: &mut W, blocks: &Blocks) -> Result<Wire, AllocError>
     ensures ok { IfOk result (λ new. Carries (W.possible wires.new) (W.shape wires.new) new blocks.now.width
         (λ v. blocks_folded (combined_word Sum) blocks.now.rows blocks.now.width (words v blocks.now.flags))) }
     ensures cost { W.ands wires.new ≤ W.ands wires.old + 17 * (blocks.now.rows * blocks.now.width) }
+    ensures calls { W.and_calls wires.new ≤ W.and_calls wires.old + (2 * ceil_log2 blocks.now.rows + 7) }
 {
     let alloc = *blocks.places.allocator();
     let rows = blocks.rows as usize;
@@ -113,6 +118,7 @@ fn aggregate_wire<W: Wires>(
     ensures ok { IfOk result (λ new. Carries (W.possible wires.new) (W.shape wires.new) new blocks.now.width
         (λ v. aggregate_lanes aggregate blocks.now.rows blocks.now.width (words v blocks.now.flags) (column_words v table.now))) }
     ensures cost { W.ands wires.new ≤ W.ands wires.old + 17 * (blocks.now.rows * blocks.now.width) }
+    ensures calls { W.and_calls wires.new ≤ W.and_calls wires.old + aggregate_calls aggregate blocks.now.rows }
 {
     // Laws: the word in a lane, and the row and the column of a place of a table.
     lanes::item_laws();
@@ -158,6 +164,7 @@ pub(crate) fn aggregate_all<W: Wires>(
     ensures ok { IfOk result (λ made. AreWired (W.possible wires.new) (W.shape wires.new) made.items blocks.now.width
         (λ k v. numbered_lanes k aggregates.now blocks.now.rows blocks.now.width (words v blocks.now.flags) (column_words v table.now))) }
     ensures cost { W.ands wires.new ≤ W.ands wires.old + length aggregates.now * (17 * (blocks.now.rows * blocks.now.width)) }
+    ensures calls { W.and_calls wires.new ≤ W.and_calls wires.old + aggregates_calls aggregates.now blocks.now.rows }
 {
     let mut made = Vec::new(*blocks.places.allocator());
     for at in 0..aggregates.len() {

@@ -7,6 +7,7 @@ ghost use Rattle.wires.specs.Environment.{words};
 ghost use Rattle.wires.specs.Growth.{Carries, Grows, IsMade, lanes_of};
 ghost use Rattle.shared_ops.specs.Costs.{comparison_cost};
 ghost use Rattle.shared_ops.specs.Lanes.{compared_lanes};
+ghost use Rattle.shared_ops.specs.Rounds.{comparison_calls};
 
 use circuits::{eq, lt};
 use plain_operators::Comparison;
@@ -27,6 +28,7 @@ pub(crate) fn compare<W: Wires>(
     ensures ok { IfOk result (λ new. Carries (W.possible wires.new) (W.shape wires.new) new (lanes_of (W.shape wires.old) left)
         (λ v. compared_lanes comparison (words v left) (words v right))) }
     ensures cost { W.ands wires.new ≤ W.ands wires.old + comparison_cost comparison * lanes_of (W.shape wires.old) left }
+    ensures calls { W.and_calls wires.new ≤ W.and_calls wires.old + comparison_calls comparison }
 {
     match comparison {
         Comparison::Equal => {
@@ -65,6 +67,7 @@ fn differ<W: Wires>(wires: &mut W, left: Wire, right: Wire) -> Result<Wire, Allo
     ensures ok { IfOk result (λ new. Carries (W.possible wires.new) (W.shape wires.new) new (lanes_of (W.shape wires.old) left)
         (λ v. lanewise (λ x y. if not (nat_eq x y) then 1 else 0) (words v left) (words v right))) }
     ensures cost { W.ands wires.new ≤ W.ands wires.old + 6 * lanes_of (W.shape wires.old) left }
+    ensures calls { W.and_calls wires.new ≤ W.and_calls wires.old + 6 }
 {
     let equal = eq(wires, left, right)?;
     let new = flipped(wires, equal)?;
@@ -80,6 +83,7 @@ fn not_below<W: Wires>(wires: &mut W, left: Wire, right: Wire) -> Result<Wire, A
     ensures ok { IfOk result (λ new. Carries (W.possible wires.new) (W.shape wires.new) new (lanes_of (W.shape wires.old) left)
         (λ v. lanewise (λ x y. if not (nat_lt x y) then 1 else 0) (words v left) (words v right))) }
     ensures cost { W.ands wires.new ≤ W.ands wires.old + 13 * lanes_of (W.shape wires.old) left }
+    ensures calls { W.and_calls wires.new ≤ W.and_calls wires.old + 7 }
 {
     let below = lt(wires, left, right)?;
     let new = flipped(wires, below)?;
@@ -93,6 +97,7 @@ fn flipped<W: Wires>(wires: &mut W, flag: Wire) -> Result<Wire, AllocError>
     ensures ok { IfOk result (λ new. Carries (W.possible wires.new) (W.shape wires.new) new (lanes_of (W.shape wires.old) flag)
         (λ v. lanewise1 (λ x. bit_and x 1) (lanewise1 word_not (words v flag)))) }
     ensures cost { W.ands wires.new ≤ W.ands wires.old }
+    ensures calls { W.and_calls wires.new ≤ W.and_calls wires.old }
 {
     let turned = wires.not(flag)?;
     let new = wires.mask(turned, 1)?;

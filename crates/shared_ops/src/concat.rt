@@ -22,6 +22,7 @@ pub fn joint_concat<W: Wires>(wires: &mut W, tables: &Vec<Joint>) -> Result<Join
     ensures makes { IfOk result (λ new. Makes (W.possible wires.new) (W.shape wires.new) new (joint_count tables.now.items) (joint_width tables.now.items)
         (λ v. AllBits v tables.now.items) (λ v. flat_map (joint_rows v) tables.now.items)) }
     ensures cost { W.ands wires.new ≤ W.ands wires.old }
+    ensures calls { W.and_calls wires.new ≤ W.and_calls wires.old }
 {
     // Laws: tables one behind the other have their rows so, and rows are the same bag as themselves.
     padded::laws::rows_of_appended();
@@ -100,6 +101,7 @@ fn appended<W: Wires>(wires: &mut W, parts: &[Wire], places: &[u32]) -> Result<W
     ensures ok { IfOk result (λ new. Carries (W.possible wires.new) (W.shape wires.new) new (total_lanes (W.shape wires.old) parts.now)
         (λ v. all_words v parts.now)) }
     ensures cost { W.ands wires.new ≤ W.ands wires.old }
+    ensures calls { W.and_calls wires.new ≤ W.and_calls wires.old }
 {
     let new = wires.gather(parts, places)?;
     Ok(new)
@@ -122,6 +124,7 @@ fn appended_columns<W: Wires>(
     ensures ok { IfOk result (λ made. AreWired (W.possible wires.new) (W.shape wires.new) made.items (joint_count tables.now)
         (λ k v. all_words v (map (column_wire k) tables.now))) }
     ensures cost { W.ands wires.new ≤ W.ands wires.old }
+    ensures calls { W.and_calls wires.new ≤ W.and_calls wires.old }
 {
     let mut made = Vec::new(alloc);
     for column in 0..width {
@@ -146,6 +149,7 @@ fn appended_valid<W: Wires>(
     ensures ok { IfOk result (λ new. Carries (W.possible wires.new) (W.shape wires.new) new (joint_count tables.now)
         (λ v. all_words v (map (λ t. t.valid) tables.now))) }
     ensures cost { W.ands wires.new ≤ W.ands wires.old }
+    ensures calls { W.and_calls wires.new ≤ W.and_calls wires.old }
 {
     let parts = valid_wires(alloc, tables)?;
     let new = appended(wires, parts.as_slice(), places)?;

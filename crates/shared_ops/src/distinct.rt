@@ -7,6 +7,7 @@ ghost use Rattle.padded.specs.Table.{AreBits};
 ghost use Rattle.plain_operators.specs.Operators.{distinct_rows};
 ghost use Rattle.shared_ops.specs.Costs.{distinct_cost};
 ghost use Rattle.shared_ops.specs.Joint.{IsJoint, Makes, joint_rows, valid_words};
+ghost use Rattle.shared_ops.specs.Rounds.{firsts_calls};
 
 use crate::firsts::firsts;
 use crate::joint::Joint;
@@ -21,6 +22,7 @@ pub fn joint_distinct<W: Wires>(wires: &mut W, table: &Joint) -> Result<Joint, A
     ensures makes { IfOk result (λ new. Makes (W.possible wires.new) (W.shape wires.new) new table.now.rows (length table.now.columns.items)
         (λ v. AreBits (valid_words v table.now)) (λ v. distinct_rows (joint_rows v table.now))) }
     ensures cost { W.ands wires.new ≤ W.ands wires.old + distinct_cost (length table.now.columns.items) table.now.rows }
+    ensures calls { W.and_calls wires.new ≤ W.and_calls wires.old + firsts_calls (length table.now.columns.items) table.now.rows }
 {
     // Law: rows are the same bag as themselves.
     bags::laws::bags_are_equivalence();
@@ -71,6 +73,7 @@ fn distinct<W: Wires>(wires: &mut W, table: &Joint) -> Result<Joint, AllocError>
     ensures makes { IfOk result (λ new. Makes (W.possible wires.new) (W.shape wires.new) new table.now.rows (length table.now.columns.items)
         (λ v. AreBits (valid_words v table.now)) (λ v. distinct_rows (joint_rows v table.now))) }
     ensures cost { W.ands wires.new ≤ W.ands wires.old + table.now.rows * table.now.rows * (7 * length table.now.columns.items + 4) }
+    ensures calls { W.and_calls wires.new ≤ W.and_calls wires.old + firsts_calls (length table.now.columns.items) table.now.rows }
 {
     // Laws: distinct rows are those at the first places, and rows are the same bag as themselves.
     plain_operators::laws::operators_of_firsts();

@@ -11,6 +11,7 @@ ghost use Rattle.plain_operators.specs.Within.{AreTestsOf, IsTestOf};
 ghost use Rattle.shared_ops.specs.Costs.{comparison_cost, tests_cost};
 ghost use Rattle.shared_ops.specs.Joint.{IsJoint, IsWide, Makes, column_words, joint_rows, valid_words};
 ghost use Rattle.shared_ops.specs.Lanes.{test_lanes, valid_after};
+ghost use Rattle.shared_ops.specs.Rounds.{comparison_calls, tests_calls};
 
 use crate::compare::compare;
 use crate::joint::Joint;
@@ -32,6 +33,7 @@ pub fn filter_by<W: Wires>(
     ensures makes { IfOk result (λ new. Makes (W.possible wires.new) (W.shape wires.new) new table.now.rows (length table.now.columns.items)
         (λ v. AreBits (valid_words v table.now)) (λ v. kept_rows (map holds_of tests.now) (joint_rows v table.now))) }
     ensures cost { W.ands wires.new ≤ W.ands wires.old + table.now.rows * tests_cost tests.now }
+    ensures calls { W.and_calls wires.new ≤ W.and_calls wires.old + tests_calls tests.now }
 {
     // Laws: valid words that leave in what passes a test, and rows are the same bag as themselves.
     padded::laws::rows_of_kept();
@@ -55,6 +57,7 @@ fn passing<W: Wires>(wires: &mut W, table: &Joint, tests: &[Test]) -> Result<Wir
     ensures ok { IfOk result (λ new. Carries (W.possible wires.new) (W.shape wires.new) new table.now.rows
         (λ v. valid_after tests.now table.now.rows (column_words v table.now) (valid_words v table.now))) }
     ensures cost { W.ands wires.new ≤ W.ands wires.old + table.now.rows * tests_cost tests.now }
+    ensures calls { W.and_calls wires.new ≤ W.and_calls wires.old + tests_calls tests.now }
 {
     let mut valid = table.valid;
     for test in tests {
@@ -77,6 +80,7 @@ fn pass<W: Wires>(
     ensures ok { IfOk result (λ new. Carries (W.possible wires.new) (W.shape wires.new) new table.now.rows
         (λ v. lanewise bit_and (words v valid) (test_lanes test.now table.now.rows (column_words v table.now)))) }
     ensures cost { W.ands wires.new ≤ W.ands wires.old + (comparison_cost test.now.comparison + 1) * table.now.rows }
+    ensures calls { W.and_calls wires.new ≤ W.and_calls wires.old + (comparison_calls test.now.comparison + 1) }
 {
     let left = operand_wire(wires, table, test.left)?;
     let right = operand_wire(wires, table, test.right)?;

@@ -6,6 +6,7 @@ ghost use Rattle.plain_operators.specs.Within.{HasColumns};
 ghost use Rattle.shared_ops.specs.Firsts.{AreFirsts};
 ghost use Rattle.shared_ops.specs.Groups.{with_themselves};
 ghost use Rattle.shared_ops.specs.Joint.{IsJoint};
+ghost use Rattle.shared_ops.specs.Rounds.{firsts_calls};
 
 use crate::joint::Joint;
 use crate::matched::matched;
@@ -44,6 +45,7 @@ pub(crate) fn firsts<W: Wires>(
     ensures grows { Grows W.grown W.possible W.shape wires.old wires.new }
     ensures ok { IfOk result (λ new. AreFirsts (W.possible wires.new) (W.shape wires.new) keys.now table.now new) }
     ensures cost { W.ands wires.new ≤ W.ands wires.old + table.now.rows * table.now.rows * (7 * length keys.now + 3) }
+    ensures calls { W.and_calls wires.new ≤ W.and_calls wires.old + firsts_calls (length keys.now) table.now.rows }
 {
     // Laws: the word in a lane, and the row and the column of a place of a table.
     lanes::item_laws();

@@ -1,6 +1,7 @@
 //! Group: aggregates over the rows with equal keys, or over all rows.
 
 ghost use Rattle.std.specs.Prelude.{◌≡◌, ◌+◌, ◌*◌, ◌^◌, ◌<◌, ◌≤◌, ◌++◌, length, map, IfOk};
+ghost use Rattle.lanes.specs.Logarithm.{ceil_log2};
 ghost use Rattle.wires.specs.Growth.{Grows};
 ghost use Rattle.padded.specs.Table.{AreBits};
 ghost use Rattle.plain_operators.specs.OnSources.{group_of_rows, group_size};
@@ -8,6 +9,7 @@ ghost use Rattle.plain_operators.specs.Operators.{grouped_rows, whole_table_rows
 ghost use Rattle.plain_operators.specs.Within.{AreAggregatesOf, HasColumns};
 ghost use Rattle.shared_ops.specs.Costs.{group_cost};
 ghost use Rattle.shared_ops.specs.Joint.{IsJoint, Makes, column_wire, joint_rows, valid_words};
+ghost use Rattle.shared_ops.specs.Rounds.{aggregates_calls, firsts_calls, group_calls};
 
 use crate::aggregate::{aggregate_all, blocks_of};
 use crate::firsts::firsts;
@@ -20,8 +22,8 @@ use wires::{Wire, Wires};
 /// One row for each list of keys that occurs, at the place of its first row: the keys, then the aggregates over the rows
 /// with these keys. Without keys one row of the aggregates over all rows, and none from none.
 ///
-/// With keys each pair of rows is compared; without keys each row is looked at. A table of 2^16 rows or more with keys
-/// finds no memory for its pairs.
+/// With keys each pair of rows is compared; without keys each row is looked at. AND calls go by the logarithm of the
+/// rows alone. A table of 2^16 rows or more with keys finds no memory for its pairs.
 pub fn group_by<W: Wires>(
     wires: &mut W,
     table: &Joint,
@@ -36,6 +38,7 @@ pub fn group_by<W: Wires>(
     ensures makes { IfOk result (λ new. Makes (W.possible wires.new) (W.shape wires.new) new (group_size keys.now table.now.rows)
         (length keys.now + length aggregates.now) (λ v. AreBits (valid_words v table.now)) (λ v. group_of_rows keys.now aggregates.now (joint_rows v table.now))) }
     ensures cost { W.ands wires.new ≤ W.ands wires.old + group_cost keys.now aggregates.now table.now.rows }
+    ensures calls { W.and_calls wires.new ≤ W.and_calls wires.old + group_calls keys.now aggregates.now table.now.rows }
 {
     if keys.is_empty() {
         let new = whole_table(wires, table, aggregates)?;
@@ -61,6 +64,7 @@ fn whole_table<W: Wires>(
     ensures makes { IfOk result (λ new. Makes (W.possible wires.new) (W.shape wires.new) new 1 (length aggregates.now)
         (λ v. AreBits (valid_words v table.now)) (λ v. whole_table_rows aggregates.now (joint_rows v table.now))) }
     ensures cost { W.ands wires.new ≤ W.ands wires.old + table.now.rows * (17 * length aggregates.now + 4) }
+    ensures calls { W.and_calls wires.new ≤ W.and_calls wires.old + (aggregates_calls aggregates.now table.now.rows + ceil_log2 table.now.rows) }
 {
     // Laws: aggregates are folds from the neutral word, and rows are the same bag as themselves.
     plain_operators::laws::aggregates_are_folds();
@@ -93,6 +97,7 @@ fn grouped<W: Wires>(
     ensures makes { IfOk result (λ new. Makes (W.possible wires.new) (W.shape wires.new) new table.now.rows (length keys.now + length aggregates.now)
         (λ v. AreBits (valid_words v table.now)) (λ v. grouped_rows keys.now aggregates.now (joint_rows v table.now))) }
     ensures cost { W.ands wires.new ≤ W.ands wires.old + table.now.rows * table.now.rows * (7 * length keys.now + 4 + 17 * length aggregates.now) }
+    ensures calls { W.and_calls wires.new ≤ W.and_calls wires.old + (firsts_calls (length keys.now) table.now.rows + aggregates_calls aggregates.now table.now.rows) }
 {
     // Laws: a group's rows are those at its first places, and its aggregates are folds from the neutral word.
     plain_operators::laws::operators_of_firsts();

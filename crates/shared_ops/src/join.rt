@@ -11,6 +11,7 @@ ghost use Rattle.plain_operators.specs.Within.{HasColumns};
 ghost use Rattle.shared_ops.specs.Costs.{join_cost};
 ghost use Rattle.shared_ops.specs.Joint.{IsJoint, IsWide, Makes, column_words, joint_rows, valid_words};
 ghost use Rattle.shared_ops.specs.Pairs.{columns_of_pairs};
+ghost use Rattle.shared_ops.specs.Rounds.{join_calls};
 ghost use Rattle.shared_ops.specs.Wired.{AreWired};
 
 use crate::joint::Joint;
@@ -21,7 +22,7 @@ use std::alloc::AllocError;
 use wires::{Wire, Wires};
 
 /// For each left row, for each right row with equal keys: the keys, the left's others and the right's others, at the
-/// place of the pair. Each pair takes 7 AND words for each key and one more.
+/// place of the pair. Each pair takes 7 AND words for each key and one more, all pairs by the same AND calls.
 pub fn join_by<W: Wires>(
     wires: &mut W,
     left: &Joint,
@@ -38,6 +39,7 @@ pub fn join_by<W: Wires>(
         (joined_width keys.now (length left.now.columns.items) (length right.now.columns.items))
         (λ v. AreBits (valid_words v left.now) × AreBits (valid_words v right.now)) (λ v. joined_rows keys.now (joint_rows v left.now) (joint_rows v right.now))) }
     ensures cost { W.ands wires.new ≤ W.ands wires.old + left.now.rows * right.now.rows * join_cost (length keys.now) }
+    ensures calls { W.and_calls wires.new ≤ W.and_calls wires.old + join_calls (length keys.now) }
 {
     // Laws: a table of pairs has the rows of those that match, which are the same bag as themselves.
     padded::laws::rows_of_pairs();
@@ -70,6 +72,7 @@ fn joined_columns<W: Wires>(
     ensures value { IfOk result (λ made. (v : Environment) → W.possible wires.new v
         → map (words v) made.items ≡ columns_of_pairs keys.now left.now.rows right.now.rows (column_words v left.now) (column_words v right.now)) }
     ensures cost { W.ands wires.new ≤ W.ands wires.old }
+    ensures calls { W.and_calls wires.new ≤ W.and_calls wires.old }
 {
     // Laws: each place of a table tells its row and its column.
     lanes::table_laws();
@@ -100,6 +103,7 @@ fn columns_at<W: Wires>(
     ensures ok { IfOk result (λ made. AreWired (W.possible wires.new) (W.shape wires.new) made.items (length places.now)
         (λ k v. picked places.now (column_at (column_words v table.now) (slice_index numbers.now k)))) }
     ensures cost { W.ands wires.new ≤ W.ands wires.old }
+    ensures calls { W.and_calls wires.new ≤ W.and_calls wires.old }
 {
     let mut made = Vec::new(*table.columns.allocator());
     for at in 0..numbers.len() {

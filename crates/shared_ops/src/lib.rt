@@ -6,7 +6,8 @@
 //! Main promise, one record for all (`Makes`): the wires made, their lanes, the room for rows by the sizes of the
 //! arguments alone, the width; and in each possible environment in which the arguments' valid words are 0 or 1, valid
 //! words of 0 and 1 and valid rows that have the bag of the plain operator on the arguments' valid rows. AND words are
-//! bounded by the sizes. A node of a graph makes what its operator makes (`MakesNode`).
+//! bounded by the sizes, and AND calls go by the logarithm of the rows. A node of a graph makes what its operator makes
+//! (`MakesNode`).
 #![tactic(auto)]
 
 mod aggregate;

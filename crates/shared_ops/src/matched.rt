@@ -9,6 +9,7 @@ ghost use Rattle.wires.specs.Environment.{words};
 ghost use Rattle.wires.specs.Growth.{Carries, Grows, IsMade, lanes_of};
 ghost use Rattle.shared_ops.specs.Joint.{IsJoint, IsWide};
 ghost use Rattle.shared_ops.specs.Pairs.{IsMatched};
+ghost use Rattle.shared_ops.specs.Rounds.{join_calls};
 
 use crate::joint::Joint;
 use crate::pairs::{gathered, places_on_left, places_on_right};
@@ -32,6 +33,7 @@ pub(crate) fn matched<W: Wires>(
     ensures grows { Grows W.grown W.possible W.shape wires.old wires.new }
     ensures ok { IfOk result (λ new. IsMatched (W.possible wires.new) (W.shape wires.new) keys.now left.now right.now new) }
     ensures cost { W.ands wires.new ≤ W.ands wires.old + left.now.rows * right.now.rows * (7 * length keys.now + 1) }
+    ensures calls { W.and_calls wires.new ≤ W.and_calls wires.old + join_calls (length keys.now) }
 {
     // Laws: each place of a table tells its row and its column.
     lanes::table_laws();
@@ -78,6 +80,7 @@ fn both_valid<W: Wires>(
     ensures ok { IfOk result (λ new. Carries (W.possible wires.new) (W.shape wires.new) new (length lefts.now)
         (λ v. lanewise bit_and (picked lefts.now (words v left)) (picked rights.now (words v right)))) }
     ensures cost { W.ands wires.new ≤ W.ands wires.old + length lefts.now }
+    ensures calls { W.and_calls wires.new ≤ W.and_calls wires.old + 1 }
 {
     let left = gathered(wires, left, lefts)?;
     let right = gathered(wires, right, rights)?;
@@ -105,6 +108,7 @@ fn and_equal<W: Wires>(
     ensures ok { IfOk result (λ new. Carries (W.possible wires.new) (W.shape wires.new) new (length lefts.now)
         (λ v. lanewise bit_and (words v matched) (lanewise equal_word (picked lefts.now (words v left)) (picked rights.now (words v right))))) }
     ensures cost { W.ands wires.new ≤ W.ands wires.old + 7 * length lefts.now }
+    ensures calls { W.and_calls wires.new ≤ W.and_calls wires.old + 7 }
 {
     let left = gathered(wires, left, lefts)?;
     let right = gathered(wires, right, rights)?;

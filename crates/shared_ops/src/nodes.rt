@@ -5,7 +5,7 @@ ghost use Rattle.wires.specs.Growth.{Grows};
 ghost use Rattle.query_graph.specs.NodeSizes.{unbounded_size};
 ghost use Rattle.query_graph.specs.Observers.{sources_of};
 ghost use Rattle.shared_ops.specs.Joint.{AreJoint, IsJoint};
-ghost use Rattle.shared_ops.specs.Nodes.{FitsNode, MakesNode, is_filter, is_group, is_join, is_select, node_cost, sizes_of, widths_of};
+ghost use Rattle.shared_ops.specs.Nodes.{FitsNode, MakesNode, is_filter, is_group, is_join, is_select, node_calls, node_cost, sizes_of, widths_of};
 
 use crate::concat::joint_concat;
 use crate::distinct::joint_distinct;
@@ -31,6 +31,7 @@ pub fn joint_filter<W: Wires>(
     ensures grows { Grows W.grown W.possible W.shape wires.old wires.new }
     ensures makes { IfOk result (λ new. MakesNode (W.possible wires.new) (W.shape wires.new) new node.now.shape (table.now ∷ [])) }
     ensures cost { W.ands wires.new ≤ W.ands wires.old + node_cost node.now.shape (sizes_of (table.now ∷ [])) (widths_of (table.now ∷ [])) }
+    ensures calls { W.and_calls wires.new ≤ W.and_calls wires.old + node_calls node.now.shape (sizes_of (table.now ∷ [])) (widths_of (table.now ∷ [])) }
 {
     match &node.shape {
         Operator::Filter(filter) => {
@@ -54,6 +55,7 @@ pub fn joint_select<W: Wires>(
     ensures grows { Grows W.grown W.possible W.shape wires.old wires.new }
     ensures makes { IfOk result (λ new. MakesNode (W.possible wires.new) (W.shape wires.new) new node.now.shape (table.now ∷ [])) }
     ensures cost { W.ands wires.new ≤ W.ands wires.old + node_cost node.now.shape (sizes_of (table.now ∷ [])) (widths_of (table.now ∷ [])) }
+    ensures calls { W.and_calls wires.new ≤ W.and_calls wires.old + node_calls node.now.shape (sizes_of (table.now ∷ [])) (widths_of (table.now ∷ [])) }
 {
     match &node.shape {
         Operator::Select(select) => {
@@ -82,6 +84,8 @@ pub fn joint_join<W: Wires>(
     ensures makes { IfOk result (λ new. MakesNode (W.possible wires.new) (W.shape wires.new) new node.now.shape (left.now ∷ right.now ∷ [])) }
     ensures cost { W.ands wires.new ≤ W.ands wires.old
         + node_cost node.now.shape (sizes_of (left.now ∷ right.now ∷ [])) (widths_of (left.now ∷ right.now ∷ [])) }
+    ensures calls { W.and_calls wires.new ≤ W.and_calls wires.old
+        + node_calls node.now.shape (sizes_of (left.now ∷ right.now ∷ [])) (widths_of (left.now ∷ right.now ∷ [])) }
 {
     match &node.shape {
         Operator::Join(join) => {
@@ -102,6 +106,7 @@ pub fn joint_group<W: Wires>(wires: &mut W, table: &Joint, node: &Node) -> Resul
     ensures grows { Grows W.grown W.possible W.shape wires.old wires.new }
     ensures makes { IfOk result (λ new. MakesNode (W.possible wires.new) (W.shape wires.new) new node.now.shape (table.now ∷ [])) }
     ensures cost { W.ands wires.new ≤ W.ands wires.old + node_cost node.now.shape (sizes_of (table.now ∷ [])) (widths_of (table.now ∷ [])) }
+    ensures calls { W.and_calls wires.new ≤ W.and_calls wires.old + node_calls node.now.shape (sizes_of (table.now ∷ [])) (widths_of (table.now ∷ [])) }
 {
     match &node.shape {
         Operator::Group(group) => {
@@ -116,9 +121,9 @@ pub fn joint_group<W: Wires>(wires: &mut W, table: &Joint, node: &Node) -> Resul
 
 /// The operator of a node that is no relation, on the tables of its sources in their order.
 ///
-/// The room for rows, the columns and the most AND words are those of the operator by the rows and the columns of these
-/// tables, and no bound of the node counts. Of every graph `laws::nodes_fit_tables` says that its nodes fit tables of their
-/// sources' widths.
+/// The room for rows, the columns and the most AND words and AND calls are those of the operator by the rows and the
+/// columns of these tables, and no bound of the node counts. Of every graph `laws::nodes_fit_tables` says that its nodes
+/// fit tables of their sources' widths.
 pub fn joint_node<W: Wires>(
     wires: &mut W,
     tables: &Vec<Joint>,
@@ -134,6 +139,8 @@ pub fn joint_node<W: Wires>(
     ensures makes { IfOk result (λ new. MakesNode (W.possible wires.new) (W.shape wires.new) new node.now.shape tables.now.items) }
     ensures cost { W.ands wires.new ≤ W.ands wires.old
         + node_cost node.now.shape (sizes_of tables.now.items) (widths_of tables.now.items) }
+    ensures calls { W.and_calls wires.new ≤ W.and_calls wires.old
+        + node_calls node.now.shape (sizes_of tables.now.items) (widths_of tables.now.items) }
 {
     match &node.shape {
         Operator::Relation(_) => unreachable!(),

@@ -23,6 +23,7 @@ pub(crate) fn operand_wire<W: Wires>(
     ensures ok { IfOk result (λ new. Carries (W.possible wires.new) (W.shape wires.new) new table.now.rows
         (λ v. operand_lanes operand table.now.rows (column_words v table.now))) }
     ensures cost { W.ands wires.new ≤ W.ands wires.old }
+    ensures calls { W.and_calls wires.new ≤ W.and_calls wires.old }
 {
     match operand {
         Operand::Column(column) => Ok(table.columns[column as usize]),

@@ -45,6 +45,7 @@ pub(crate) fn gathered<W: Wires>(
     ensures grows { Grows W.grown W.possible W.shape wires.old wires.new }
     ensures ok { IfOk result (λ new. Carries (W.possible wires.new) (W.shape wires.new) new (length places.now) (λ v. picked places.now (words v wire))) }
     ensures cost { W.ands wires.new ≤ W.ands wires.old }
+    ensures calls { W.and_calls wires.new ≤ W.and_calls wires.old }
 {
     let new = wires.gather(&[wire], places)?;
     Ok(new)

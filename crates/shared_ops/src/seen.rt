@@ -1,6 +1,7 @@
 //! Rows that come again: those that match a row before them.
 
 ghost use Rattle.std.specs.Prelude.{◌≡◌, ◌+◌, ◌*◌, ◌^◌, ◌<◌, ◌≤◌, IfOk};
+ghost use Rattle.lanes.specs.Logarithm.{ceil_log2};
 ghost use Rattle.wires.specs.Environment.{words};
 ghost use Rattle.wires.specs.Growth.{Carries, Grows};
 ghost use Rattle.shared_ops.specs.Groups.{earlier_place, earlier_places, seen_lanes, unseen_valid};
@@ -44,6 +45,7 @@ fn seen<W: Wires>(wires: &mut W, alloc: Global, flags: Wire, rows: u32) -> Resul
     ensures grows { Grows W.grown W.possible W.shape wires.old wires.new }
     ensures ok { IfOk result (λ new. Carries (W.possible wires.new) (W.shape wires.new) new rows (λ v. seen_lanes rows (words v flags))) }
     ensures cost { W.ands wires.new ≤ W.ands wires.old + rows * rows }
+    ensures calls { W.and_calls wires.new ≤ W.and_calls wires.old + ceil_log2 rows }
 {
     // Law: the row and the column of a place of a table.
     lanes::table_laws();
@@ -76,6 +78,7 @@ pub(crate) fn unseen<W: Wires>(
     ensures grows { Grows W.grown W.possible W.shape wires.old wires.new }
     ensures ok { IfOk result (λ new. Carries (W.possible wires.new) (W.shape wires.new) new rows (λ v. unseen_valid rows (words v valid) (words v flags))) }
     ensures cost { W.ands wires.new ≤ W.ands wires.old + (rows * rows + rows) }
+    ensures calls { W.and_calls wires.new ≤ W.and_calls wires.old + (ceil_log2 rows + 1) }
 {
     let seen = seen(wires, alloc, flags, rows)?;
     let turned = wires.not(seen)?;

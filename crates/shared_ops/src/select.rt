@@ -11,6 +11,7 @@ ghost use Rattle.plain_operators.specs.Within.{AreItemsOf, IsItemOf};
 ghost use Rattle.shared_ops.specs.Costs.{item_cost, items_cost, operation_cost};
 ghost use Rattle.shared_ops.specs.Joint.{IsJoint, Makes, column_words, joint_rows, valid_words};
 ghost use Rattle.shared_ops.specs.Lanes.{item_lanes, lanes_of_item};
+ghost use Rattle.shared_ops.specs.Rounds.{item_calls, items_calls, operation_calls};
 ghost use Rattle.shared_ops.specs.Wired.{AreWired};
 
 use crate::compare::compare;
@@ -34,6 +35,7 @@ pub fn select_by<W: Wires>(
     ensures makes { IfOk result (λ new. Makes (W.possible wires.new) (W.shape wires.new) new table.now.rows (length items.now)
         (λ v. AreBits (valid_words v table.now)) (λ v. rows_of_items (map item_word items.now) (joint_rows v table.now))) }
     ensures cost { W.ands wires.new ≤ W.ands wires.old + table.now.rows * items_cost items.now }
+    ensures calls { W.and_calls wires.new ≤ W.and_calls wires.old + items_calls items.now }
 {
     // Laws: columns whose rows are images have the images of the rows, which are the same bag as themselves.
     padded::laws::rows_of_mapped();
@@ -62,6 +64,7 @@ fn item_wires<W: Wires>(
     ensures ok { IfOk result (λ made. AreWired (W.possible wires.new) (W.shape wires.new) made.items table.now.rows
         (λ k v. lanes_of_item k items.now table.now.rows (column_words v table.now))) }
     ensures cost { W.ands wires.new ≤ W.ands wires.old + table.now.rows * items_cost items.now }
+    ensures calls { W.and_calls wires.new ≤ W.and_calls wires.old + items_calls items.now }
 {
     let mut columns = Vec::new(alloc);
     for at in 0..items.len() {
@@ -79,6 +82,7 @@ fn item_wire<W: Wires>(wires: &mut W, table: &Joint, item: Item) -> Result<Wire,
     ensures ok { IfOk result (λ new. Carries (W.possible wires.new) (W.shape wires.new) new table.now.rows
         (λ v. item_lanes item table.now.rows (column_words v table.now))) }
     ensures cost { W.ands wires.new ≤ W.ands wires.old + item_cost item * table.now.rows }
+    ensures calls { W.and_calls wires.new ≤ W.and_calls wires.old + item_calls item }
 {
     match item {
         Item::Plain(operand) => {
@@ -112,6 +116,7 @@ fn compute<W: Wires>(
     ensures ok { IfOk result (λ new. Carries (W.possible wires.new) (W.shape wires.new) new (lanes_of (W.shape wires.old) left)
         (λ v. lanewise (computed operation) (words v left) (words v right))) }
     ensures cost { W.ands wires.new ≤ W.ands wires.old + operation_cost operation * lanes_of (W.shape wires.old) left }
+    ensures calls { W.and_calls wires.new ≤ W.and_calls wires.old + operation_calls operation }
 {
     match operation {
         Operation::Compare(comparison) => {

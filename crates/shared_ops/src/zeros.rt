@@ -24,6 +24,7 @@ pub fn zeroed<W: Wires>(wires: &mut W, table: &Joint) -> Result<Joint, AllocErro
         (λ v. AreBits (valid_words v table.now)) (λ v. joint_rows v table.now)) }
     ensures zeros { IfOk result (λ new. IsZeroed (W.possible wires.new) table.now new) }
     ensures cost { W.ands wires.new ≤ W.ands wires.old + table.now.rows * length table.now.columns.items }
+    ensures calls { W.and_calls wires.new ≤ W.and_calls wires.old + length table.now.columns.items }
 {
     // Laws: zeroed columns have the same rows, which are the same bag as themselves.
     padded::laws::rows_of_zeroed();
@@ -51,6 +52,7 @@ fn masked_columns<W: Wires>(
     ensures ok { IfOk result (λ made. AreWired (W.possible wires.new) (W.shape wires.new) made.items (lanes_of (W.shape wires.old) valid)
         (λ k v. lanewise (masked_word Sum) (words v valid) (column_at (map (words v) columns.now) k))) }
     ensures cost { W.ands wires.new ≤ W.ands wires.old + length columns.now * lanes_of (W.shape wires.old) valid }
+    ensures calls { W.and_calls wires.new ≤ W.and_calls wires.old + length columns.now }
 {
     let mut made = Vec::new(alloc);
     for at in 0..columns.len() {

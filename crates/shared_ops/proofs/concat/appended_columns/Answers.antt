@@ -27,31 +27,33 @@ lanes shape tables parts width column all wide below is =
 pub appended-requires-clause-made : goal.appended-requires-clause-made
 appended-requires-clause-made g c =
     let w = g.W.Wires in
-    let now = joint_on w.grown w.possible w.shape c.args.wires.now c.loop-column.wires c.args.tables.now c.loop-column.invariant.grows c.requires.joint in
+    let now = joint_on w.grown w.possible w.shape c.args.wires.now c.loop-column.wires c.args.tables.now c.loop-column.invariant.0.grows c.requires.joint in
     made (w.shape c.loop-column.wires) c.args.tables.now c.as_slice.result.now c.args.width c.loop-column.column now c.requires.width c.loop-column-test.true (c.as_slice.ensures.value ∙ c.in_ok-parts.ensures)
 
 pub appended-requires-clause-places : goal.appended-requires-clause-places
 appended-requires-clause-places g c =
     let w = g.W.Wires in
-    let now = joint_on w.grown w.possible w.shape c.args.wires.now c.loop-column.wires c.args.tables.now c.loop-column.invariant.grows c.requires.joint in
+    let now = joint_on w.grown w.possible w.shape c.args.wires.now c.loop-column.wires c.args.tables.now c.loop-column.invariant.0.grows c.requires.joint in
     c.requires.places
     ∙ ap (range_with_len 0) (sym (lanes (w.shape c.loop-column.wires) c.args.tables.now c.as_slice.result.now c.args.width c.loop-column.column now c.requires.width c.loop-column-test.true (c.as_slice.ensures.value ∙ c.in_ok-parts.ensures)))
 
 pub appended-requires-clause-few : goal.appended-requires-clause-few
 appended-requires-clause-few g c =
     let w = g.W.Wires in
-    let now = joint_on w.grown w.possible w.shape c.args.wires.now c.loop-column.wires c.args.tables.now c.loop-column.invariant.grows c.requires.joint in
+    let now = joint_on w.grown w.possible w.shape c.args.wires.now c.loop-column.wires c.args.tables.now c.loop-column.invariant.0.grows c.requires.joint in
     omega (arith, lanes (w.shape c.loop-column.wires) c.args.tables.now c.as_slice.result.now c.args.width c.loop-column.column now c.requires.width c.loop-column-test.true (c.as_slice.ensures.value ∙ c.in_ok-parts.ensures), c.requires.few)
 
 pub loop-column-preserved : goal.loop-column-preserved
 loop-column-preserved g c =
     let w = g.W.Wires in
-    let inv = c.loop-column.invariant in
+    let inv = c.loop-column.invariant.0 in
     let tables = c.args.tables.now in
     let column = c.loop-column.column in
     let now = joint_on w.grown w.possible w.shape c.args.wires.now c.loop-column.wires tables inv.grows c.requires.joint in
     let is = c.as_slice.ensures.value ∙ c.in_ok-parts.ensures in
     let total = lanes (w.shape c.loop-column.wires) tables c.as_slice.result.now c.args.width column now c.requires.width c.loop-column-test.true is in
-    let here = restated (w.possible c.appended.new.wires) (w.shape c.appended.new.wires) c.in_ok-new.new _ (joint_count tables) _ _ total c.in_ok-new.ensures.ok (λ v is_now. ap (all_words v) is) in
-    wiring_goes_on w.grown w.possible w.shape w.ands c.args.wires.now c.loop-column.wires c.appended.new.wires c.loop-column.made.items c.push.new.self.items c.in_ok-new.new (joint_count tables) _ column 0 0 0
-    inv c.in_ok-new.ensures.grows here (omega (arith, c.in_ok-new.ensures.cost)) c.in_ok-push.ensures.items (omega arith)
+    let here = restated (w.possible c.appended.new.wires) (w.shape c.appended.new.wires) c.in_ok-new.new _ (joint_count tables) _ _ total c.in_ok-new.ensures.ok (λ v is_now. ap (all_words v) is) in (
+      wiring_goes_on w.grown w.possible w.shape w.ands c.args.wires.now c.loop-column.wires c.appended.new.wires c.loop-column.made.items c.push.new.self.items c.in_ok-new.new (joint_count tables) _ column 0 0 0
+          inv c.in_ok-new.ensures.grows here (omega (arith, c.in_ok-new.ensures.cost)) c.in_ok-push.ensures.items (omega arith),
+      omega (arith, c.loop-column.invariant.1, c.in_ok-new.ensures.calls),
+    )

@@ -1,4 +1,4 @@
-use Rattle.std.proofs.Common.{◌≡◌, ℕ, ◌+◌, ◌*◌, ◌≤◌, List, length, refl, sym, ap, ◌∙◌, subst}
+use Rattle.std.proofs.Common.{◌≡◌, ℕ, ◌+◌, ◌*◌, ◌≤◌, List, length, refl, sym, ap, ◌∙◌, subst, arith}
 use Rattle.std.specs.List.{range_with_len}
 use Rattle.std.proofs.lemmas.List.FromFn.{length-range_with_len}
 use Rattle.plain_operators.specs.Within.{HasColumns}
@@ -50,3 +50,12 @@ returns-in_err-columns-clause-cost g c =
     let w = g.W.Wires in
     let t = c.args.table.now in
     paid (w.ands c.args.wires.now) (w.ands c.firsts.new.wires) (t.rows * t.rows) (length t.columns.items) c.as_slice.result.now (c.as_slice.ensures.value ∙ c.in_ok-numbers.ensures) c.in_ok-firsts.ensures.cost
+
+pub returns-clause-calls : goal.returns-clause-calls
+returns-clause-calls g c = omega (arith, c.in_ok-firsts.ensures.calls, many c.as_slice.result.now (length c.args.table.now.columns.items) (c.as_slice.ensures.value ∙ c.in_ok-numbers.ensures))
+
+pub returns-in_err-firsts-clause-calls : goal.returns-in_err-firsts-clause-calls
+returns-in_err-firsts-clause-calls g c = omega (arith, c.in_err-firsts.ensures.calls, many c.as_slice.result.now (length c.args.table.now.columns.items) (c.as_slice.ensures.value ∙ c.in_ok-numbers.ensures))
+
+pub returns-in_err-columns-clause-calls : goal.returns-in_err-columns-clause-calls
+returns-in_err-columns-clause-calls g c = omega (arith, c.in_ok-firsts.ensures.calls, many c.as_slice.result.now (length c.args.table.now.columns.items) (c.as_slice.ensures.value ∙ c.in_ok-numbers.ensures))

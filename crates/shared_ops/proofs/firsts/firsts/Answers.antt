@@ -1,4 +1,4 @@
-use Rattle.std.proofs.Common.{◌≡◌, ℕ, ◌+◌, ◌*◌, ◌≤◌, List, length, sym, ap, ◌∙◌, subst}
+use Rattle.std.proofs.Common.{◌≡◌, ℕ, ◌+◌, ◌*◌, ◌≤◌, List, length, sym, ap, ◌∙◌, subst, arith}
 use Rattle.std.proofs.lemmas.List.{length-map}
 use Rattle.plain_operators.specs.Operators.{left_keys, right_keys}
 use Rattle.plain_operators.specs.Within.{HasColumns}
@@ -50,3 +50,6 @@ pub returns-clause-grows : goal.returns-clause-grows
 returns-clause-grows g c =
     let w = g.W.Wires in
     grows_then w.grown w.possible w.shape c.args.wires.now c.matched.new.wires c.unseen.new.wires c.in_ok-flags.ensures.grows c.in_ok-valid.ensures.grows
+
+pub returns-clause-calls : goal.returns-clause-calls
+returns-clause-calls g c = omega (arith, c.in_ok-flags.ensures.calls, c.in_ok-valid.ensures.calls, many c.as_slice.result.now c.args.keys.now (c.as_slice.ensures.value ∙ c.in_ok-pairs.ensures))

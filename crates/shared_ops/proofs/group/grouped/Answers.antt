@@ -1,5 +1,6 @@
 use Rattle.std.proofs.Common.{◌≡◌, ◌*◌, length, refl, arith}
 use Rattle.shared_ops.specs.declared.joint.Joint.{Joint}
+use Rattle.shared_ops.proofs.Called.{aggregates_by_rows}
 use Rattle.shared_ops.proofs.FirstTables.{group_makes}
 use Rattle.shared_ops.proofs.Flagged.{blocks_are, wired_as}
 use Rattle.shared_ops.proofs.GroupCosts.{grouped_cost}
@@ -53,3 +54,12 @@ pub returns-clause-grows : goal.returns-clause-grows
 returns-clause-grows g c =
     let w = g.W.Wires in
     grows_then w.grown w.possible w.shape c.args.wires.now c.firsts.new.wires c.aggregate_all.new.wires c.in_ok-firsts.ensures.grows c.in_ok-folded.ensures.grows
+
+pub returns-clause-calls : goal.returns-clause-calls
+returns-clause-calls g c = omega (arith, c.in_ok-firsts.ensures.calls, c.in_ok-folded.ensures.calls, aggregates_by_rows c.args.aggregates.now c.in_ok-blocks.blocks.rows c.args.table.now.rows c.in_ok-blocks.ensures.rows)
+
+pub returns-in_err-folded-clause-calls : goal.returns-in_err-folded-clause-calls
+returns-in_err-folded-clause-calls g c = omega (arith, c.in_ok-firsts.ensures.calls, c.in_err-folded.ensures.calls, aggregates_by_rows c.args.aggregates.now c.in_ok-blocks.blocks.rows c.args.table.now.rows c.in_ok-blocks.ensures.rows)
+
+pub returns-in_err-columns-clause-calls : goal.returns-in_err-columns-clause-calls
+returns-in_err-columns-clause-calls g c = omega (arith, c.in_ok-firsts.ensures.calls, c.in_ok-folded.ensures.calls, aggregates_by_rows c.args.aggregates.now c.in_ok-blocks.blocks.rows c.args.table.now.rows c.in_ok-blocks.ensures.rows)

@@ -1,6 +1,7 @@
 use Rattle.std.proofs.Common.{◌≡◌, ℕ, ◌*◌, length, refl, subst, arith}
 use Rattle.shared_ops.specs.declared.joint.Joint.{Joint}
 use Rattle.shared_ops.specs.Joint.{IsWide}
+use Rattle.shared_ops.proofs.Called.{aggregates_by_rows}
 use Rattle.shared_ops.proofs.FirstTables.{whole_makes}
 use Rattle.shared_ops.proofs.Flagged.{blocks_are, wired_as}
 use Rattle.shared_ops.proofs.GroupCosts.{any_cost, whole_cost}
@@ -35,3 +36,12 @@ returns-clause-cost g c =
     let each : many * (17 * (c.in_ok-blocks.blocks.rows * c.in_ok-blocks.blocks.width)) ≡ many * (17 * (t.rows * 1)) = λ i. many * (17 * (is.rows i * is.width i)) in
     whole_cost (w.ands c.args.wires.now) (w.ands c.aggregate_all.new.wires) (w.ands c.fold_blocks.new.wires) t.rows many
     (omega (arith, c.in_ok-columns.ensures.cost, each)) (omega (arith, c.in_ok-valid.ensures.cost, any_cost 1 t.rows))
+
+pub returns-clause-calls : goal.returns-clause-calls
+returns-clause-calls g c = omega (arith, c.in_ok-columns.ensures.calls, c.in_ok-valid.ensures.calls, aggregates_by_rows c.args.aggregates.now c.in_ok-blocks.blocks.rows c.args.table.now.rows c.in_ok-blocks.ensures.rows)
+
+pub returns-in_err-columns-clause-calls : goal.returns-in_err-columns-clause-calls
+returns-in_err-columns-clause-calls g c = omega (arith, c.in_err-columns.ensures.calls, aggregates_by_rows c.args.aggregates.now c.in_ok-blocks.blocks.rows c.args.table.now.rows c.in_ok-blocks.ensures.rows)
+
+pub returns-in_err-valid-clause-calls : goal.returns-in_err-valid-clause-calls
+returns-in_err-valid-clause-calls g c = omega (arith, c.in_ok-columns.ensures.calls, c.in_err-valid.ensures.calls, aggregates_by_rows c.args.aggregates.now c.in_ok-blocks.blocks.rows c.args.table.now.rows c.in_ok-blocks.ensures.rows)

@@ -14,6 +14,8 @@ loop-at-preserved g c =
     let ok = c.in_ok-column.ensures in
     let inside = c.requires.numbers at 0 c.loop-at-test.true in
     let made = restated (w.possible c.gathered.new.wires) (w.shape c.gathered.new.wires) c.in_ok-column.column (length places) (length places) _ _ refl ok.ok
-    (λ v now. ap (picked places) (indexed_words v t.columns.items (get_or numbers at 0) c.index.result.now c.index.ensures inside)) in
-    wiring_goes_on w.grown w.possible w.shape w.ands c.args.wires.now c.loop-at.wires c.gathered.new.wires c.loop-at.made.items c.push.new.self.items c.in_ok-column.column (length places) _ at 0 0 0
-    c.loop-at.invariant ok.grows made (omega (arith, ok.cost)) c.in_ok-push.ensures.items (omega arith)
+    (λ v now. ap (picked places) (indexed_words v t.columns.items (get_or numbers at 0) c.index.result.now c.index.ensures inside)) in (
+      wiring_goes_on w.grown w.possible w.shape w.ands c.args.wires.now c.loop-at.wires c.gathered.new.wires c.loop-at.made.items c.push.new.self.items c.in_ok-column.column (length places) _ at 0 0 0
+          c.loop-at.invariant.0 ok.grows made (omega (arith, ok.cost)) c.in_ok-push.ensures.items (omega arith),
+      omega (arith, c.loop-at.invariant.1, ok.calls),
+    )

@@ -1,4 +1,4 @@
-use Rattle.std.proofs.Common.{◌*◌, map}
+use Rattle.std.proofs.Common.{◌+◌, ◌*◌, ◌≤◌, map}
 use Rattle.lanes.specs.Lanes.{lanewise}
 use Rattle.wires.specs.Environment.{words}
 use Rattle.wires.specs.Growth.{lanes_of}
@@ -12,3 +12,4 @@ abbrev pub invariant-loop-at : goal.invariant-loop-at
 invariant-loop-at g l =
     Wiring g.W.Wires.grown g.W.Wires.possible g.W.Wires.shape g.W.Wires.ands l.fn.wires l.wires l.made.items (lanes_of (g.W.Wires.shape l.fn.wires) l.fn.valid)
     (λ k v. lanewise (masked_word Sum) (words v l.fn.valid) (column_at (map (words v) l.columns) k)) l.at (l.at * lanes_of (g.W.Wires.shape l.fn.wires) l.fn.valid)
+    × (g.W.Wires.and_calls l.wires ≤ g.W.Wires.and_calls l.fn.wires + l.at)

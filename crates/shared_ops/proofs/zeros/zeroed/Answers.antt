@@ -1,4 +1,4 @@
-use Rattle.std.proofs.Common.{◌≡◌, ℕ, List, map, length, refl, sym, ap, ◌∙◌, subst}
+use Rattle.std.proofs.Common.{◌≡◌, ℕ, List, map, length, refl, sym, ap, ◌∙◌, subst, arith}
 use Rattle.std.specs.Prelude.{All}
 use Rattle.std.proofs.lemmas.List.{length-map}
 use Rattle.bags.specs.Bag.{SameBag}
@@ -72,3 +72,13 @@ returns-clause-makes g c =
           ap (λ cs. rows_in cs (words v t.valid)) columns ∙ c.rows_of_zeroed.ensures.same (column_words v t) (words v t.valid) long in
           subst (λ (rows : List (List ℕ)). SameBag (rows_in (map (words v) made) (words v t.valid)) rows) same (c.bags_are_equivalence.ensures.itself (rows_in (map (words v) made) (words v t.valid)));
     }
+
+pub returns-in_err-columns-clause-calls : goal.returns-in_err-columns-clause-calls
+returns-in_err-columns-clause-calls g c =
+    let count : length c.as_slice.result.now ≡ length c.args.table.now.columns.items = ap length c.as_slice.ensures.value in
+    omega (arith, c.in_err-columns.ensures.calls, count)
+
+pub returns-clause-calls : goal.returns-clause-calls
+returns-clause-calls g c =
+    let count : length c.as_slice.result.now ≡ length c.args.table.now.columns.items = ap length c.as_slice.ensures.value in
+    omega (arith, c.in_ok-columns.ensures.calls, count)
