@@ -1,0 +1,17 @@
+pub mod Lists
+pub mod Threes
+pub mod Orders
+pub mod Cuts
+pub mod Phasing
+pub mod PhasesHeld
+pub mod LocalSteps
+pub mod MaskedSteps
+pub mod RevealStep
+pub mod SteerStep
+pub mod AllSteps
+pub mod Progress
+pub mod RunParts
+pub mod Partial
+pub mod PartialSteps
+pub mod Fronts
+pub mod HaveWords

@@ -1,0 +1,2 @@
+pub mod InMachine
+pub mod StageWords
