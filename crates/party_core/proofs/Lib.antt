@@ -1,0 +1,12 @@
+mod Steps
+mod Progressing
+mod Runs
+mod Here
+mod Fine
+mod Wanting
+mod SendsStay
+mod OneParty
+mod CoreLaws
+mod Kept
+mod Moves
+mod MovesLeft

@@ -1,0 +1,9 @@
+//! One party of three that carries out a list: what it is seen as, and what is known of it. It holds its own slots, its two
+//! tapes and the words that came, and never another party's data.
+#![tactic(auto)]
+
+mod laws;
+mod want;
+
+pub use laws::{core_laws, move_laws};
+pub use want::Want;
