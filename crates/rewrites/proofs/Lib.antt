@@ -1,0 +1,13 @@
+pub mod Values
+pub mod PartCases
+pub mod Pieces
+pub mod PartSizes
+pub mod PartTrust
+pub mod UpSelects
+pub mod Opened
+pub mod PartTable
+pub mod PartColumns
+pub mod RowWidths
+pub mod NodesParts
+pub mod UpWords
+pub mod EachColumn

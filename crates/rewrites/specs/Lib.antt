@@ -1,0 +1,9 @@
+pub mod Values
+pub mod Parts
+pub mod Up
+pub mod Rewritten
+pub mod PartRows
+pub mod PartTables
+pub mod IsUp
+pub mod Opened
+pub mod Laws
