@@ -12,3 +12,5 @@ pub mod Operating
 pub mod Finishing
 pub mod Revealing
 pub mod Outputting
+pub mod Agreeing
+pub mod Isolating

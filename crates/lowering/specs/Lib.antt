@@ -12,5 +12,6 @@ pub mod Segments
 pub mod Lowered
 pub mod Plan
 pub mod PlanInside
+pub mod Isolated
 pub mod Compiled
 pub mod Pieces

@@ -4,6 +4,7 @@ ghost use Rattle.lowering.specs.Compiled.{Compiles};
 
 use crate::accept::accept;
 use crate::fault::CompileFault;
+use crate::laws::showing_answers_isolates;
 use crate::lower::lower;
 use crate::plan::Plan;
 use crate::unbuilt::unbuilt;
@@ -17,13 +18,16 @@ use std::alloc::Global;
 pub fn compile(alloc: Global, text: &[u8]) -> Result<Plan, CompileFault>
     ensures { Compiles text.now result }
 {
-    // Law: padded rows are so many columns of so many words.
+    // Laws: padded rows are so many columns of so many words; a plan that shows no more than the answers is isolated.
     padded::laws::padded_fits();
+    showing_answers_isolates();
     let accepted = accept(alloc, text)?;
     if let Some(line) = unbuilt(&accepted.graph) {
         return Err(CompileFault::NotBuilt { line });
     }
     let lowered = lower(alloc, &accepted.graph)?;
+    // Its contract says that the list is well-formed.
+    let _ = lowered.list.steps();
     let text = Vec::from_slice(alloc, text)?;
     Ok(Plan::new(
         text,

@@ -5,7 +5,8 @@
 //! circuits over a list, and on `step_lists` and `clear_tasks`. Every relation is shared by its owner where it is used,
 //! every other node is worked on shares, and each output is zeroed and opened to each of its recipients.
 //! Main promise (`specs/Compiled.antt`): a text is refused exactly by the first rule that fails; else its plan is correct
-//! for every world and all tapes, shows no party more than its answers, and keeps to the shared cost.
+//! for every world and all tapes, shows no party more than its answers, is isolated (`specs/Isolated.antt`), and keeps to
+//! the shared cost.
 #![tactic(auto)]
 
 mod accept;
@@ -14,6 +15,7 @@ mod compiler;
 mod cost;
 mod fault;
 mod first;
+pub mod laws;
 mod lines;
 mod loading;
 mod lower;

@@ -1,10 +1,11 @@
 //! A plan.
 
-ghost use Rattle.std.specs.Prelude.{◌≡◌};
+ghost use Rattle.std.specs.Prelude.{◌≡◌, None};
 ghost use Rattle.query_graph.specs.IsGraph.{IsGraph};
 ghost use Rattle.trust_sets.specs.Trust.{trust_of};
 ghost use Rattle.lowering.specs.FirstSlots.{first_lengths};
 ghost use Rattle.lowering.specs.Plan.{answer_at};
+ghost use Rattle.lowering.specs.Unbuilt.{unbuilt};
 
 use clear_tasks::ClearTask;
 use lanes::{Party, Three};
@@ -49,6 +50,7 @@ impl Plan {
     ) -> Plan
         requires trust { trust ≡ trust_of graph.nodes }
         requires first { list.first ≡ first_lengths graph.nodes }
+        requires built { unbuilt graph ≡ None }
         ensures { result ≡ record { text = text.items; graph = graph; list = list; ends = ends.items; answers = answers.items } }
     {
         Plan {
@@ -82,10 +84,11 @@ impl Plan {
         &self.trust
     }
 
-    /// The list of steps; its first slots are those of the query's relations.
+    /// The list of steps; its first slots are those of the query's relations, and nothing of the query isn't built.
     pub fn list(&self) -> &StepList<ClearTask>
         ensures list { result.now ≡ self.now.list }
         ensures first { self.now.list.first ≡ first_lengths self.now.graph.nodes }
+        ensures built { unbuilt self.now.graph ≡ None }
     {
         &self.list
     }
