@@ -12,12 +12,12 @@ use Rattle.query_graph.specs.declared.node.Node.{Node}
 use Rattle.query_graph.specs.declared.operator.Operator.{Operator}
 use Rattle.query_graph.specs.Content.{Content}
 use Rattle.query_graph.specs.IsGraph.{IsGraph}
-use Rattle.query_graph.specs.NodeSizes.{NodesAreWritten, width_at}
+use Rattle.query_graph.specs.NodeSizes.{IsNodeOf, NodesAreWritten, width_at}
 use Rattle.plain_operators.specs.Sizes.{AllWide}
 use Rattle.plain_meaning.specs.Fits.{IsWorldOf}
 use Rattle.plain_meaning.specs.Laws.{IsNodeOver, NodesAreWide, NodesMeanOperators, relations_before}
 use Rattle.plain_meaning.specs.Meaning.{meanings, rows_of}
-use Rattle.rewrites.specs.Opened.{UpIsUndone, backs, node_back, node_opened, node_view, number_at, opened_nodes, opened_rows, restored_row, row_as_it_is, selected_row, source_of, view_at, views}
+use Rattle.rewrites.specs.Opened.{OpenedBySources, UpIsUndone, backs, node_back, node_opened, node_view, number_at, opened_nodes, opened_rows, restored_row, row_as_it_is, selected_row, source_of, view_at, views}
 use Rattle.rewrites.specs.Parts.{parts_of}
 use Rattle.rewrites.specs.Up.{is_up_at, up_nodes}
 use Rattle.rewrites.proofs.UpSelects.{up_found, up_lower, up_rows, up_undone}
@@ -55,6 +55,35 @@ composed nodes shape rows view back opened s i width u meant undo wide =
           ap back (undo (view (get_or xs k d)) long) ∙ u.undone k d below;
     }
 
+-- which node is opened for one
+opened_here : (graph : Content) (i : ℕ) (n : Node) → slice_get graph.nodes i ≡ Some n
+    → number_at (opened_nodes graph) i ≡ cond (is_up_at (up_nodes graph (parts_of graph.nodes)) i) (number_at (take i (opened_nodes graph)) (source_of n.shape)) i
+opened_here graph i n at =
+    let up = up_nodes graph (parts_of graph.nodes) in
+    let step = node_opened up in
+    value_here step 0 graph.nodes i n at ∙ ap (λ k. cond (is_up_at up k) (number_at (take i (opened_nodes graph)) (source_of n.shape)) k) (values_before step graph.nodes i n at)
+
+not_up_opened : (graph : Content) (i : ℕ) (n : Node) → slice_get graph.nodes i ≡ Some n → is_up_at (up_nodes graph (parts_of graph.nodes)) i ≡ false → number_at (opened_nodes graph) i ≡ i
+not_up_opened graph i n at below = opened_here graph i n at ∙ ap (λ b. cond b (number_at (take i (opened_nodes graph)) (source_of n.shape)) i) below
+
+lower_source : NodesAreWritten → (graph : Content) (i : ℕ) (n : Node) → IsNodeOf graph i n → is_up_at (up_nodes graph (parts_of graph.nodes)) i ≡ true → source_of n.shape < i
+lower_source written graph i n node above =
+    let found = up_found graph (parts_of graph.nodes) 0 graph.nodes i n node.is_node in
+    up_lower graph (parts_of graph.nodes) found.number found.later found.up n.shape i (sym found.is ∙ above) (written.sources graph i n node)
+
+up_opened : NodesAreWritten → (graph : Content) (i : ℕ) (n : Node) → IsNodeOf graph i n → is_up_at (up_nodes graph (parts_of graph.nodes)) i ≡ true
+    → number_at (opened_nodes graph) i ≡ number_at (opened_nodes graph) (source_of n.shape)
+up_opened written graph i n node above =
+    opened_here graph i n node.is_node ∙ ap (λ b. cond b (number_at (take i (opened_nodes graph)) (source_of n.shape)) i) above
+    ∙ get_or-take i (opened_nodes graph) (source_of n.shape) 0 (lower_source written graph i n node above)
+
+pub opened_by_sources : NodesAreWritten → OpenedBySources
+opened_by_sources written = record {
+  itself = λ graph i n node below. not_up_opened graph i n node.is_node below;
+  lower = λ graph i n node above. lower_source written graph i n node above;
+  below = λ graph i n node above. up_opened written graph i n node above;
+}
+
 pub record OpenedLaws : Type 0 where
   pub written : NodesAreWritten
   pub mean : NodesMeanOperators
@@ -81,18 +110,13 @@ module _ (laws : OpenedLaws) (graph : Content) (world : List (List (List ℕ))) 
         value_here step row_as_it_is graph.nodes i n at
         ∙ ap {B = List ℕ → List ℕ} (λ (k : ℕ) (row : List ℕ). cond (is_up_at up k) (view_at (take i (backs graph)) (source_of n.shape) (restored_row graph.nodes n.shape row)) row) (values_before step graph.nodes i n at)
 
-    opened_here : number_at (opened_nodes graph) i ≡ cond (is_up_at up i) (number_at (take i (opened_nodes graph)) (source_of n.shape)) i
-    opened_here =
-        let step = node_opened up in
-        value_here step 0 graph.nodes i n at ∙ ap (λ k. cond (is_up_at up k) (number_at (take i (opened_nodes graph)) (source_of n.shape)) k) (values_before step graph.nodes i n at)
-
     same_here : is_up_at up i ≡ false → IsUndone i
     same_here below =
         let rows = meanings graph.nodes world in
         let view = λ (b : Bool) (row : List ℕ). cond b (selected_row n.shape (view_at (take i (views graph)) (source_of n.shape) row)) row in
         let back = λ (b : Bool) (row : List ℕ). cond b (view_at (take i (backs graph)) (source_of n.shape) (restored_row graph.nodes n.shape row)) row in
         moved rows i (view_at (views graph) i) (λ row. row) (view_at (backs graph) i) (λ row. row) (number_at (opened_nodes graph) i) i
-        (view_here ∙ ap view below) (back_here ∙ ap back below) (opened_here ∙ ap (λ b. cond b (number_at (take i (opened_nodes graph)) (source_of n.shape)) i) below) (itself rows i)
+        (view_here ∙ ap view below) (back_here ∙ ap back below) (not_up_opened graph i n at below) (itself rows i)
 
     up_here : is_up_at up i ≡ true → ((s : ℕ) → s < i → IsUndone s) → IsUndone i
     up_here above earlier =
@@ -102,7 +126,7 @@ module _ (laws : OpenedLaws) (graph : Content) (world : List (List (List ℕ))) 
         let found = up_found graph (parts_of nodes) 0 nodes i n at in
         let is = sym found.is ∙ above in
         let over : IsNodeOver graph world i n = record { is_graph = is_graph; is_world = is_world; is_node = at } in
-        let lower : s < i = up_lower graph (parts_of nodes) found.number found.later found.up n.shape i is (laws.written.sources graph i n (record { is_graph = is_graph; is_node = at })) in
+        let lower : s < i = lower_source laws.written graph i n (record { is_graph = is_graph; is_node = at }) above in
         let inside = slice_get_within nodes i n at in
         let m = get_or nodes s n in
         let source : slice_get nodes s ≡ Some m = slice_get-get_or nodes s n (omega arith) in
@@ -117,7 +141,7 @@ module _ (laws : OpenedLaws) (graph : Content) (world : List (List (List ℕ))) 
         (number_at (opened_nodes graph) i) (number_at (opened_nodes graph) s)
         (view_here ∙ ap view above ∙ ap {B = List ℕ → List ℕ} (λ (f : List ℕ → List ℕ) (row : List ℕ). selected_row n.shape (f row)) (get_or-take i (views graph) s row_as_it_is lower))
         (back_here ∙ ap back above ∙ ap {B = List ℕ → List ℕ} (λ (f : List ℕ → List ℕ) (row : List ℕ). f (restored_row nodes n.shape row)) (get_or-take i (backs graph) s row_as_it_is lower))
-        (opened_here ∙ ap (λ b. cond b (number_at (take i (opened_nodes graph)) s) i) above ∙ get_or-take i (opened_nodes graph) s 0 lower) made
+        (up_opened laws.written graph i n (record { is_graph = is_graph; is_node = at }) above) made
 
     node_undone : (b : Bool) → is_up_at up i ≡ b → ((s : ℕ) → s < i → IsUndone s) → IsUndone i
     node_undone true is earlier = up_here is earlier

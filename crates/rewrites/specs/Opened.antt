@@ -1,5 +1,5 @@
 -- What a recipient works out above an opened node, by the selects that are up.
-use Rattle.std.specs.Prelude.{◌≡◌, ℕ, Bool, if◌then◌else◌, List, [], ◌∷◌, length, map, slice_index, slice_index_or}
+use Rattle.std.specs.Prelude.{◌≡◌, ℕ, ◌<◌, Bool, true, false, if◌then◌else◌, List, [], ◌∷◌, length, map, slice_index, slice_index_or}
 use Rattle.std.specs.List.{All, range_with_len}
 use Rattle.bags.specs.Bag.{SameBag}
 use Rattle.query_graph.specs.declared.node.Node.{Node}
@@ -7,7 +7,7 @@ use Rattle.query_graph.specs.declared.operand.Item.{Item}
 use Rattle.query_graph.specs.declared.operator.Operator.{Operator}
 use Rattle.query_graph.specs.declared.operator.Operator.TheVariants as operators
 use Rattle.query_graph.specs.Content.{Content}
-use Rattle.query_graph.specs.NodeSizes.{width_at}
+use Rattle.query_graph.specs.NodeSizes.{IsNodeOf, width_at}
 use Rattle.query_graph.specs.Observers.{sources_of}
 use Rattle.plain_operators.specs.Items.{item_word}
 use Rattle.plain_meaning.specs.Convert.{item_of}
@@ -31,6 +31,13 @@ node_opened up node earlier = if is_up_at up (length earlier) then number_at ear
 -- the node that is opened for each node: itself, or the source below all selects that are up
 abbrev pub opened_nodes : Content → List ℕ
 opened_nodes graph = values_of (node_opened (rewritten_of graph).up) graph.nodes
+
+-- a node that isn't up is opened itself; for one that is up, whose source has a lower number, what is opened for its source
+pub record OpenedBySources : Type 0 where
+  pub itself : (graph : Content) (i : ℕ) (node : Node) → IsNodeOf graph i node → is_up_at (rewritten_of graph).up i ≡ false → number_at (opened_nodes graph) i ≡ i
+  pub lower : (graph : Content) (i : ℕ) (node : Node) → IsNodeOf graph i node → is_up_at (rewritten_of graph).up i ≡ true → source_of node.shape < i
+  pub below : (graph : Content) (i : ℕ) (node : Node) → IsNodeOf graph i node → is_up_at (rewritten_of graph).up i ≡ true
+      → number_at (opened_nodes graph) i ≡ number_at (opened_nodes graph) (source_of node.shape)
 
 -- a row of a select, from one of its source
 abbrev pub selected_row : Operator → List ℕ → List ℕ

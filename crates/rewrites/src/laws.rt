@@ -3,7 +3,7 @@
 
 ghost use Rattle.rewrites.specs.IsUp.{UpInWords};
 ghost use Rattle.rewrites.specs.Laws.{NodesHaveParts, PartsAddUp, PartsAreKnown, PartsAreRows};
-ghost use Rattle.rewrites.specs.Opened.{UpIsUndone};
+ghost use Rattle.rewrites.specs.Opened.{OpenedBySources, UpIsUndone};
 
 use bags::laws::bags_of_injective_map;
 use plain_meaning::laws::{nodes_are_wide, nodes_mean_operators};
@@ -53,6 +53,14 @@ pub fn parts_are_known()
 pub fn up_in_words()
     ensures { UpInWords }
 {}
+
+/// For a node that is up what is opened is what is opened for its source, an earlier node; any other is opened itself.
+#[tactic(auto, using(crate::proofs::Opened::opened_by_sources))]
+pub fn opened_by_sources()
+    ensures { OpenedBySources }
+{
+    nodes_are_written();
+}
 
 /// What a recipient works out of the opened rows of a node, by the selects that are up, are the node's plain rows; a map
 /// that looks at no file undoes it, so that the bag of the node's rows tells the bag of the opened ones.

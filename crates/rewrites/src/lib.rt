@@ -20,7 +20,8 @@ mod up;
 mod uses;
 
 pub use laws::{
-    nodes_have_parts, parts_add_up, parts_are_known, parts_are_rows, up_in_words, up_is_undone,
+    nodes_have_parts, opened_by_sources, parts_add_up, parts_are_known, parts_are_rows,
+    up_in_words, up_is_undone,
 };
 pub use part::{Part, PartPlace};
 pub use rewriting::rewrite;
