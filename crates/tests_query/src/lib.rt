@@ -1,5 +1,5 @@
-//! Tests of `query_text`, `query_graph`, `plain_operators`, `plain_meaning` and `trust_sets` through their public
-//! calls.
+//! Tests of `query_text`, `query_graph`, `plain_operators`, `plain_meaning`, `trust_sets` and `rewrites` through
+//! their public calls.
 //!
 //! Holds nothing else and promises nothing. A crate with tests is proved a second time with them, so the tests stand
 //! here, above the crates that they test, one file or two for each. `query_tokens` is tested through `query_text`.
@@ -17,6 +17,8 @@ mod query_graph_tests;
 mod query_text_print_tests;
 #[cfg(test)]
 mod query_text_tests;
+#[cfg(test)]
+mod rewrites_tests;
 #[cfg(test)]
 mod trust_sets_agree_tests;
 #[cfg(test)]

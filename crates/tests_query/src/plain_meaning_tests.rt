@@ -49,7 +49,7 @@ fn graph_of(alloc: Global, text: &[u8]) -> Result<Graph, Fail> {
     Ok(build(alloc, &read_query(alloc, text)?)?)
 }
 
-fn world_of(alloc: Global, graph: &Graph, files: &[&[&[u64]]]) -> Result<World, Fail>
+pub(crate) fn world_of(alloc: Global, graph: &Graph, files: &[&[&[u64]]]) -> Result<World, Fail>
     ensures { IfOk result (λ world. IsWorldOf graph.now.nodes (rows_of_tables world)) }
 {
     match World::new(graph, files_of(alloc, graph, files)?) {
@@ -64,7 +64,7 @@ fn run(alloc: Global, text: &[u8], files: &[&[&[u64]]]) -> Result<PlainRows, Fai
     Ok(plain(alloc, &graph, &world)?)
 }
 
-fn has_rows(table: &Table, want: &[&[u64]]) -> bool {
+pub(crate) fn has_rows(table: &Table, want: &[&[u64]]) -> bool {
     for (number, row) in want.iter().enumerate() {
         if number >= table.rows() || table.row(number) != *row {
             return false;
