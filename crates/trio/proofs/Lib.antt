@@ -1,0 +1,13 @@
+pub mod Facts
+pub mod Words
+pub mod Placed
+pub mod Wanting
+pub mod Movers
+pub mod Least
+pub mod Ends
+pub mod Kept
+pub mod Few
+pub mod Honest
+pub mod Keeping
+pub mod Starting
+pub mod Whole
