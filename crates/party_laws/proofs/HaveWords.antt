@@ -43,14 +43,14 @@ rest_agrees few more a b e h =
     append_cancel_left more (drop (length more) few ++ a) b
     (sym (append_assoc more (drop (length more) few) a) ∙ (ap (λ x. x ++ a) (sym (behind_shorter few more a b e h)) ∙ e))
 
-at_each_party : (P : Party → Type 0) → P First → P Second → P Third → (p : Party) → P p
+pub at_each_party : (P : Party → Type 0) → P First → P Second → P Third → (p : Party) → P p
 at_each_party P a b c First = a
 at_each_party P a b c Second = b
 at_each_party P a b c Third = c
 
 -- ---- a step whose words aren't all there
 
-enough_of : (t : Three ℕ) (got : Three (List ℕ)) → is_some (lacks t got) ≡ false → (q : Party) → at q t ≤ length (at q got)
+pub enough_of : (t : Three ℕ) (got : Three (List ℕ)) → is_some (lacks t got) ≡ false → (q : Party) → at q t ≤ length (at q got)
 enough_of t got h q = by (cases_lt (length got.first) t.first) (cases_lt (length got.second) t.second) (cases_lt (length got.third) t.third) q where
   by : (length got.first < t.first) ⊎ (t.first ≤ length got.first) → (length got.second < t.second) ⊎ (t.second ≤ length got.second)
       → (length got.third < t.third) ⊎ (t.third ≤ length got.third) → (q : Party) → at q t ≤ length (at q got)

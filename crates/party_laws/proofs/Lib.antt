@@ -15,3 +15,4 @@ pub mod Partial
 pub mod PartialSteps
 pub mod Fronts
 pub mod HaveWords
+pub mod Growing

@@ -1,2 +1,3 @@
 pub mod InMachine
 pub mod StageWords
+pub mod Grows

@@ -1,4 +1,5 @@
 //! The laws of one party's part. Each function does nothing, and its contract is the law.
+ghost use Rattle.party_laws.specs.Grows.{PartsGrow};
 ghost use Rattle.party_laws.specs.InMachine.{PartsAreInMachine, PartsHaveWords};
 ghost use Rattle.party_laws.specs.StageWords.{FrontsFit, FrontsGrow, StagesHold};
 
@@ -45,4 +46,10 @@ pub fn fronts_fit<T: Task>()
 /// The machine behind the first steps of a list begins the machine of the list, and grows by the words of each step.
 pub fn fronts_grow<T: Task>()
     ensures { FrontsGrow T.answer }
+{}
+
+/// A part grows with the words that come, honest or not: on words with more behind them it has sent what it sent before
+/// and maybe more, and has taken no less; unless it had ended early for want of words, it is the same part.
+pub fn parts_grow<T: Task>()
+    ensures { PartsGrow T.answer }
 {}

@@ -3,4 +3,6 @@
 
 mod laws;
 
-pub use laws::{fronts_fit, fronts_grow, parts_are_in_machine, parts_have_words, stages_hold};
+pub use laws::{
+    fronts_fit, fronts_grow, parts_are_in_machine, parts_grow, parts_have_words, stages_hold,
+};
