@@ -1,0 +1,4 @@
+pub mod Place
+pub mod Cost
+pub mod Bounds
+pub mod Places
