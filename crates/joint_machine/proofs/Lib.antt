@@ -25,3 +25,6 @@ pub mod Ahead
 pub mod Copies
 pub mod Misfitting
 pub mod Fitting
+pub mod SharesBelow
+pub mod LinkWords
+pub mod OwnLinks

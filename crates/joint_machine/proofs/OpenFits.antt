@@ -98,7 +98,7 @@ flat_words : Facts → (f : ℕ → List ℕ) (l : Layout) (rs : List ℕ) → (
 flat_words facts f l [] h i = no_words_below
 flat_words facts f l (r ∷ rs) h i = facts.behind.appended (f r) (flat_map f rs) (h r i.0) (flat_words facts f l rs h i.1)
 
-lin_words : Facts → (l : Layout) (op : LinOp) (f : ℕ → List ℕ) → ((r : ℕ) → IsTrue (is_register l r) → AreWords (f r)) → IsTrue (fits_lin l op) → AreWords (lin op f)
+pub lin_words : Facts → (l : Layout) (op : LinOp) (f : ℕ → List ℕ) → ((r : ℕ) → IsTrue (is_register l r) → AreWords (f r)) → IsTrue (fits_lin l op) → AreWords (lin op f)
 lin_words facts l (Xor a b) f h i =
     let one = both (is_register l a && is_register l b) (length_of l a == length_of l b) i in
     let two = both (is_register l a) (is_register l b) one.0 in

@@ -61,7 +61,7 @@ share_even l m r h = item_has IsEven m.registers r nothing (zip_even l.registers
 share_long : (l : Layout) (m : Machine) (r : ℕ) → AllZip IsLong l.registers m.registers → IsTrue (is_register l r) → IsLong (length_of l r) (shares m r)
 share_long l m r h i = zip_at IsLong l.registers m.registers r 0 nothing h (below r (length l.registers) i)
 
-same_slot : (m : Machine) (o : Open) (p : Party) (s : ℕ) → Opens m o → slot_of m p s ≡ slot o p s
+pub same_slot : (m : Machine) (o : Open) (p : Party) (s : ℕ) → Opens m o → slot_of m p s ≡ slot o p s
 same_slot m o p s h = ap (λ xs. item (at p xs) s) h.slots
 
 -- ---- more of them
@@ -271,12 +271,12 @@ module _ {T : Type 0} (accepts : T → List Shape → List Shape → Bool) (answ
   -- ---- whole lists
 
   -- the two runs before each step
-  record IsBeside (l : Layout) (ss : List (Step T)) (m : Machine) (i : ThreeTapes) (o : Open) (j : ThreeTapes) : Type 0 where
-    same : i ≡ j
-    fine : AreFine accepts l ss
-    fits : (p : Party) → FitsFront (needs p l ss) (at p i)
-    opens : Opens m o
-    going : m.stop ≡ false → Kept l m o
+  pub record IsBeside (l : Layout) (ss : List (Step T)) (m : Machine) (i : ThreeTapes) (o : Open) (j : ThreeTapes) : Type 0 where
+    pub same : i ≡ j
+    pub fine : AreFine accepts l ss
+    pub fits : (p : Party) → FitsFront (needs p l ss) (at p i)
+    pub opens : Opens m o
+    pub going : m.stop ≡ false → Kept l m o
 
   pub handed : (words : Links) (l : Layout) (m : Machine) (o : Open) → Kept l m o → Kept l (delivered words m) o
   handed words l m o h = record {
@@ -285,7 +285,7 @@ module _ {T : Type 0} (accepts : T → List Shape → List Shape → Bool) (answ
     fits = h.fits;
   }
 
-  draws_of : (l : Layout) (s : Step T) (ss : List (Step T)) (ds : ThreeTapes) → ((p : Party) → FitsFront (needs p l (s ∷ ss)) (at p ds)) → AreDrawsOf l s (taken (needs_of l s) ds)
+  pub draws_of : (l : Layout) (s : Step T) (ss : List (Step T)) (ds : ThreeTapes) → ((p : Party) → FitsFront (needs p l (s ∷ ss)) (at p ds)) → AreDrawsOf l s (taken (needs_of l s) ds)
   draws_of l s ss ds h p = rw (at_taken p (needs_of l s) ds) (front_fits (at p (needs_of l s)) (needs p (grown l s) ss) (at p ds) (h p))
 
   draws_left : (l : Layout) (s : Step T) (ss : List (Step T)) (ds : ThreeTapes) → ((p : Party) → FitsFront (needs p l (s ∷ ss)) (at p ds))
@@ -341,7 +341,7 @@ module _ {T : Type 0} (accepts : T → List Shape → List Shape → Bool) (answ
   beside_same facts law l s ss m o ds true e h = beside_stop l s ss m o ds e h
   beside_same facts law l s ss m o ds false e h = beside_going facts law l s ss m o ds e h
 
-  beside_step : Facts → IsLawful accepts answer → (l : Layout) (s : Step T) (ss : List (Step T)) (m : Machine) (i : ThreeTapes) (o : Open) (j : ThreeTapes)
+  pub beside_step : Facts → IsLawful accepts answer → (l : Layout) (s : Step T) (ss : List (Step T)) (m : Machine) (i : ThreeTapes) (o : Open) (j : ThreeTapes)
       → IsBeside l (s ∷ ss) m i o j
       → IsBeside (grown l s) ss (joint_going answer l m s (taken (needs_of l s) i)) (dropped (needs_of l s) i)
       (open_going answer l o s (taken (needs_of l s) j)) (dropped (needs_of l s) j)
@@ -368,7 +368,7 @@ module _ {T : Type 0} (accepts : T → List Shape → List Shape → Bool) (answ
     slots_of Second = shapes_of first.second slots.second (h.long Second) (h.below Second)
     slots_of Third = shapes_of first.third slots.third (h.long Third) (h.below Third)
 
-  before_all : (list : Steps T) (slots : SlotWords) (ds : ThreeTapes) → IsWellFormed accepts list → Fits list slots ds
+  pub before_all : (list : Steps T) (slots : SlotWords) (ds : ThreeTapes) → IsWellFormed accepts list → Fits list slots ds
       → IsBeside (starting list.first) list.steps (before_steps slots) ds (opening slots) ds
   before_all list slots ds fine fits =
       let opens : Opens (before_steps slots) (opening slots) = record { registers = refl; slots = refl; flags = refl; stop = refl } in

@@ -6,3 +6,4 @@ pub mod Left
 pub mod Stepping
 pub mod Fitting
 pub mod Faults
+pub mod Below

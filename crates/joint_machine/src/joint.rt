@@ -134,11 +134,27 @@ fn check_tapes<T: Task>(alloc: Global, list: &StepList<T>, tapes: &Tapes) -> Res
     Ok(())
 }
 
-/// Three parties carry out a list on first slots, with the draws of three tapes.
+/// Whether first slots and tapes are what a list needs, before it is run.
 ///
 /// SlotLength comes first and exactly where a first slot has another length, is missing or is one too many; then Unfit,
-/// exactly where a tape isn't what the list's schedule needs. Own, after Araki et al. (2016) and Laur, Willemson and
-/// Zhang (2011).
+/// exactly where a tape isn't what the list's schedule needs. Own.
+pub fn check_run<T: Task>(
+    alloc: Global,
+    list: &StepList<T>,
+    slots: &Slots,
+    tapes: &Tapes,
+) -> Result<(), JointFault>
+    ensures fits { OnOk result (HaveFirst list.now slots.now × TapesFit list.now (draws_of tapes.now)) }
+    ensures fault { IfErr result (λ fault. IsFault list.now slots.now (draws_of tapes.now) fault) }
+{
+    check_slots(list, slots)?;
+    check_tapes(alloc, list, tapes)?;
+    Ok(())
+}
+
+/// Three parties carry out a list on first slots, with the draws of three tapes.
+///
+/// It is refused as by `check_run`. Own, after Araki et al. (2016) and Laur, Willemson and Zhang (2011).
 pub fn joint_run<T: Task>(
     alloc: Global,
     list: &StepList<T>,
@@ -151,8 +167,7 @@ pub fn joint_run<T: Task>(
     ensures fits { OnOk result (HaveFirst list.now slots.now × TapesFit list.now (draws_of tapes.now)) }
     ensures fault { IfErr result (λ fault. IsFault list.now slots.now (draws_of tapes.now) fault) }
 {
-    check_slots(list, slots)?;
-    check_tapes(alloc, list, tapes)?;
+    check_run(alloc, list, slots, tapes)?;
     let machine = run_list(alloc, list, slots, tapes)?;
     Ok(JointRun { machine })
 }

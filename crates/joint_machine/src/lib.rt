@@ -18,8 +18,8 @@ mod steer;
 mod steps;
 
 pub use draws::{RevealDraws, SteerDraws, draw_reveal, draw_steer};
-pub use joint::{JointFault, JointRun, joint_run};
-pub use laws::{opened_laws, steps_fit};
+pub use joint::{JointFault, JointRun, check_run, joint_run};
+pub use laws::{link_laws, opened_laws, steps_fit};
 pub use machine::Machine;
 pub use phases::{Drawn as PhaseDrawn, Turned, phase};
 pub use run::start;

@@ -23,13 +23,17 @@ use Rattle.party_core.specs.Moves.{moves_left}
 use Rattle.party_core.specs.MoveLaws.{MovesKeep, TakeKept}
 use Rattle.trio.specs.declared.stepped.Stepped.TheVariants.{Moved, Waits, Ended}
 use Rattle.trio.specs.Running.{Running, core_at, taken_on, waiting_on, by_turn, by_words, moved, moved_by, stepped, stepped_by}
-use Rattle.trio.specs.RunOf.{Begins, IsRunOf, AreWaiting, all_moves_left}
+use Rattle.trio.specs.RunOf.{Begins, IsRunOf, all_moves_left}
 use Rattle.trio.proofs.Facts.{Facts}
 use Rattle.trio.proofs.Words.{begins_through, begins_more}
 use Rattle.trio.proofs.Wanting.{WantsWords, wants_words}
 use Rattle.trio.proofs.Movers.{IsKnown, known, core_is}
 use Rattle.trio.proofs.Honest.{order_is_fine}
 use Rattle.trio.proofs.Kept.{put_all, turn_kept, words_kept}
+
+-- the words that wait for v are below 2 ^ 64
+abbrev pub AreWaiting : {T : Type 0} → Party → Running T → Type 0
+AreWaiting v r = (q : Party) (n : ℕ) → AreWords (take n (waiting_on q v r))
 
 three_left : {T : Type 0} (v : Party) (x : Three (CoreView T)) (d : CoreView T) → moves_left (at v x) ≡ suc (moves_left d)
     → moves_left x.first + moves_left x.second + moves_left x.third

@@ -13,13 +13,14 @@ use Rattle.step_lists.specs.Draws.{ThreeTapes}
 use Rattle.step_lists.specs.Open.{SlotWords}
 use Rattle.step_lists.specs.Phases.{link}
 use Rattle.step_lists.specs.Machine.{joint_of}
+use Rattle.joint_machine.specs.Below.{AreWordsOn}
 use Rattle.party_core.specs.MoveLaws.{MovesKeep}
 use Rattle.trio.specs.declared.stepped.Stepped.TheVariants.{Moved}
 use Rattle.trio.specs.Running.{Running, taken_on, waiting_on, moved, stepped, in_turns, rounds, HaveEnded}
-use Rattle.trio.specs.RunOf.{IsRunOf, AreWaiting, AreWordsOn, all_moves_left}
+use Rattle.trio.specs.RunOf.{IsRunOf, all_moves_left}
 use Rattle.trio.proofs.Facts.{Facts}
 use Rattle.trio.proofs.Least.{goes_on}
-use Rattle.trio.proofs.Keeping.{step_keeps, step_lowers, moves_or_stays}
+use Rattle.trio.proofs.Keeping.{AreWaiting, step_keeps, step_lowers, moves_or_stays}
 
 module _ {T : Type 0} (accepts : T → List Shape → List Shape → Bool) (answer : T → List (List ℕ) → List (List ℕ)) (facts : Facts accepts answer) (moves : MovesKeep accepts answer)
     (parts : WordsOfParts) (list : Steps T) (slots : SlotWords) (ds : ThreeTapes) (words : AreWordsOn (joint_of answer list slots ds).links) where
@@ -34,10 +35,10 @@ module _ {T : Type 0} (accepts : T → List Shape → List Shape → Bool) (answ
       let rest : AreWords (waiting_on q v r) = parts.behind (take k (link q v r.sent)) (waiting_on q v r) (subst AreWords (sym (take-append-drop k (link q v r.sent))) sent) in
       parts.first (take n (waiting_on q v r)) (drop n (waiting_on q v r)) (subst AreWords (sym (take-append-drop n (waiting_on q v r))) rest)
 
-  keeps : (r : Running T) (v : Party) → IsRun r → IsRun (moved answer v r)
+  pub keeps : (r : Running T) (v : Party) → IsRun r → IsRun (moved answer v r)
   keeps r v h = step_keeps accepts answer facts moves list slots ds r h v (waiting r h v)
 
-  lowers : (r : Running T) (v : Party) → IsRun r → stepped answer v r ≡ Moved → all_moves_left r ≡ suc (all_moves_left (moved answer v r))
+  pub lowers : (r : Running T) (v : Party) → IsRun r → stepped answer v r ≡ Moved → all_moves_left r ≡ suc (all_moves_left (moved answer v r))
   lowers r v h e = step_lowers accepts answer facts moves list slots ds r h v (waiting r h v) e
 
   stays_or : (r : Running T) (v : Party) → IsRun r → (stepped answer v r ≡ Moved) ⊎ (moved answer v r ≡ r)

@@ -4,13 +4,12 @@ use Rattle.lanes.specs.declared.party.Party.{Party}
 use Rattle.lanes.specs.declared.party.Party.TheVariants.{First, Second, Third}
 use Rattle.lanes.specs.Party.{next}
 use Rattle.lanes.specs.Three.{at}
-use Rattle.lanes.specs.Word.{AreWords}
 use Rattle.step_lists.specs.declared.step.Shape.{Shape}
 use Rattle.step_lists.specs.Layout.{Steps, party_of}
 use Rattle.step_lists.specs.Draws.{ThreeTapes, parties}
 use Rattle.step_lists.specs.Rules.{IsWellFormed}
 use Rattle.step_lists.specs.Open.{SlotWords}
-use Rattle.step_lists.specs.Phases.{Links, link, no_words}
+use Rattle.step_lists.specs.Phases.{link, no_words}
 use Rattle.step_lists.specs.Machine.{joint_of}
 use Rattle.step_lists.specs.Possible.{Fits, SlotsFit, TapesFit}
 use Rattle.party_core.specs.declared.want.Want.{Want}
@@ -63,10 +62,6 @@ pub record EndsAsJoint {T : Type 0} (answer : T → List (List ℕ) → List (Li
 abbrev pub fresh_run : {T : Type 0} → Steps T → SlotWords → ThreeTapes → Running T
 fresh_run list slots ds = record { cores = parties (λ v. fresh_core list v (at v slots) (at v ds) (at (next v) ds)); sent = no_words }
 
--- the words that wait for v are below 2 ^ 64, as those of any vector of words are
-abbrev pub AreWaiting : {T : Type 0} → Party → Running T → Type 0
-AreWaiting v r = (q : Party) (n : ℕ) → AreWords (take n (waiting_on q v r))
-
 -- how many moves are left to all three
 abbrev pub all_moves_left : {T : Type 0} → Running T → ℕ
 all_moves_left r = moves_left (core_at First r) + moves_left (core_at Second r) + moves_left (core_at Third r)
@@ -76,23 +71,19 @@ all_moves_left r = moves_left (core_at First r) + moves_left (core_at Second r) 
 pub record RunsKeep {T : Type 0} (accepts : T → List Shape → List Shape → Bool) (answer : T → List (List ℕ) → List (List ℕ)) : Type 0 where
   pub starts : (list : Steps T) (slots : SlotWords) (ds : ThreeTapes) → IsWellFormed accepts list → SlotsFit list.first slots → TapesFit list ds
       → IsRunOf accepts answer list slots ds (fresh_run list slots ds)
-  pub steps : (list : Steps T) (slots : SlotWords) (ds : ThreeTapes) (r : Running T) (v : Party) → IsRunOf accepts answer list slots ds r → AreWaiting v r
+  pub steps : (list : Steps T) (slots : SlotWords) (ds : ThreeTapes) (r : Running T) (v : Party) → IsRunOf accepts answer list slots ds r
       → IsRunOf accepts answer list slots ds (moved answer v r)
   pub honest : (list : Steps T) (slots : SlotWords) (ds : ThreeTapes) (r : Running T) (v : Party) (q n : ℕ) → IsRunOf accepts answer list slots ds r
       → want_of answer (core_at v r) ≡ Words q n → n ≤ length (waiting_on (party_of q) v r)
       → breaks_order (core_at v r) (party_of q) (take n (waiting_on (party_of q) v r)) ≡ false
-  pub lowers : (list : Steps T) (slots : SlotWords) (ds : ThreeTapes) (r : Running T) (v : Party) → IsRunOf accepts answer list slots ds r → AreWaiting v r
+  pub lowers : (list : Steps T) (slots : SlotWords) (ds : ThreeTapes) (r : Running T) (v : Party) → IsRunOf accepts answer list slots ds r
       → stepped answer v r ≡ Moved → all_moves_left r ≡ suc (all_moves_left (moved answer v r))
-
--- all words on some links are below 2 ^ 64
-abbrev pub AreWordsOn : Links → Type 0
-AreWordsOn links = (q v : Party) → AreWords (link q v links)
 
 -- whatever the turns, the run stays one of its list, and behind enough rounds all have ended; so in every order of turns
 -- links, slots and stops come out as the joint run's
 abbrev pub EveryOrderEnds : {T : Type 0} → (T → List Shape → List Shape → Bool) → (T → List (List ℕ) → List (List ℕ)) → Type 0
 EveryOrderEnds {T} accepts answer =
-    (list : Steps T) (slots : SlotWords) (ds : ThreeTapes) (r : Running T) (turns : List ℕ) → IsRunOf accepts answer list slots ds r → AreWordsOn (joint_of answer list slots ds).links
+    (list : Steps T) (slots : SlotWords) (ds : ThreeTapes) (r : Running T) (turns : List ℕ) → IsRunOf accepts answer list slots ds r
     → IsRunOf accepts answer list slots ds (in_turns answer turns r)
     × ((count : ℕ) × (HaveEnded answer (in_turns answer (turns ++ rounds count) r) × IsRunOf accepts answer list slots ds (in_turns answer (turns ++ rounds count) r)))
 

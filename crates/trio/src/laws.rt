@@ -2,6 +2,7 @@
 ghost use Rattle.trio.specs.FewMoves.{MovesAreFew};
 ghost use Rattle.trio.specs.RunOf.{EveryOrderEnds, RunsGoOn, RunsKeep};
 
+use joint_machine::link_laws;
 use lanes::item_laws;
 use party_core::move_laws;
 use party_laws::{fronts_fit, fronts_grow, parts_are_in_machine, parts_have_words, stages_hold};
@@ -24,6 +25,8 @@ pub fn runs_go_on<T: Task>()
 pub fn runs_keep<T: Task>()
     ensures { RunsKeep T.accepts T.answer }
 {
+    item_laws();
+    link_laws::<T>();
     parts_are_in_machine::<T>();
     parts_have_words::<T>();
     stages_hold::<T>();
@@ -38,6 +41,7 @@ pub fn every_order_ends<T: Task>()
     ensures { EveryOrderEnds T.accepts T.answer }
 {
     item_laws();
+    link_laws::<T>();
     parts_are_in_machine::<T>();
     parts_have_words::<T>();
     stages_hold::<T>();

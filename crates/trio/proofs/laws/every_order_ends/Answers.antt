@@ -3,8 +3,9 @@ use Rattle.trio.proofs.Whole.{all_end}
 use Rattle.trio.proofs.laws.every_order_ends.Goals as goal
 
 pub returns : goal.returns
-returns g c = λ list slots ds r turns h words.
-    all_end g.T.Task.accepts g.T.Task.answer facts c.move_laws.ensures c.item_laws.ensures.parts list slots ds words turns r h where
+returns g c = λ list slots ds r turns h.
+    all_end g.T.Task.accepts g.T.Task.answer facts c.move_laws.ensures c.item_laws.ensures.parts list slots ds
+    (c.link_laws.ensures.words list slots ds h.well_formed h.fits) turns r h where
       facts : Facts g.T.Task.accepts g.T.Task.answer
       facts = record {
         machine = c.parts_are_in_machine.ensures;

@@ -1,6 +1,6 @@
 use Rattle.std.proofs.Common.{rules}
 use Rattle.joint_machine.specs.Left.{draws_of}
-use Rattle.joint_machine.proofs.joint.joint_run.Goals as goal
+use Rattle.joint_machine.proofs.joint.check_run.Goals as goal
 
 pub returns-in_err-check_slots-clause-fault : goal.returns-in_err-check_slots-clause-fault
 returns-in_err-check_slots-clause-fault g c =
