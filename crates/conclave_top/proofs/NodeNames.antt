@@ -1,17 +1,18 @@
 -- Names of nodes are texts.
-use Rattle.std.proofs.Common.{◌≡◌, ◌≢◌, Bor, ℕ, zero, suc, ◌<◌, Bool, true, false, ◌&&◌, List, [], ◌∷◌, map, refl, sym, subst, arith, lit<, slice_index_or}
-use Rattle.std.specs.Prelude.{All}
+use Rattle.std.proofs.Common.{◌≡◌, ◌≢◌, Bor, ℕ, zero, suc, ◌<◌, Bool, true, false, ◌&&◌, List, [], ◌∷◌, length, map, Some, refl, sym, subst, arith, lit<, slice_index_or}
+use Rattle.std.specs.Prelude.{All, slice_get}
 use Rattle.std.specs.List.{list_all}
 use Rattle.std.specs.Str.{IsAscii, IsUtf8}
 use Rattle.std.proofs.lemmas.Grind.{common_steps}
 use Rattle.std.proofs.lemmas.List.{get_or-map}
 use Rattle.std.proofs.lemmas.List.Elements.{All-nil}
-use Rattle.std.proofs.lemmas.Option.{slice_get-get_or}
+use Rattle.std.proofs.lemmas.Option.{get_or_from_slice_get, slice_get-get_or, slice_get_within}
 use Rattle.std.proofs.lemmas.Str.{IsUtf8-from_ascii}
 use Rattle.query_tokens.specs.Token.{IsName, is_word, is_word_byte, starts_word}
 use Rattle.query_graph.specs.Content.{Content}
 use Rattle.query_graph.specs.IsGraph.{IsGraph, IsNode, FitsSources}
 use Rattle.query_graph.specs.declared.node.Node.{Node}
+use Rattle.query_graph.specs.declared.node.Output.{Output}
 use Rattle.query_graph.specs.declared.operator.Operator.{Operator}
 use Rattle.query_graph.specs.declared.operator.Operator.TheVariants as operators
 use Rattle.words.specs.declared.column.Column.{Column}
@@ -94,3 +95,11 @@ relations_stored graph is = kept_stored graph.nodes (each_stored graph is)
 pub lent_stored : (lent : List (Bor Node)) (relations : List Node) → map (λ node. node.now) lent ≡ relations → All IsStored relations → All (λ node. IsStored node.now) lent
 lent_stored lent relations same all i d within =
     subst IsStored (get_or-map (λ node. node.now) lent i d d.now within) (subst (All IsStored) (sym same) all i d.now (within_map (λ node. node.now) lent i within))
+
+-- the name of a node is a text, and an output is of a node
+pub node_is_text : (graph : Content) (i : ℕ) (node : Node) → IsGraph graph → slice_get graph.nodes i ≡ Some node → IsUtf8 node.name
+node_is_text graph i node is here = name_is_text node.name (is.nodes i node here).name
+
+pub output_within : (graph : Content) (number : ℕ) (output : Output) → IsGraph graph → slice_get graph.outputs number ≡ Some output → output.node < length graph.nodes
+output_within graph number output is here =
+    subst (λ (o : Output). o.node < length graph.nodes) (get_or_from_slice_get graph.outputs number output output here) (is.outputs number output (slice_get_within graph.outputs number output here)).node

@@ -23,7 +23,7 @@ held_more : (files : Option Files) (names bytes : List (List ℕ)) (name more : 
 held_more None names bytes name more held here = tt
 held_more (Some told) names bytes name more held here = map_push told names name ∙ ap (λ xs. xs ++ told name ∷ []) held ∙ ap (λ x. map Some bytes ++ x ∷ []) here ∙ sym (map_push Some bytes more)
 
-read_then : (first names : List (List ℕ)) (old mid new : FolderState) → HasRead first old mid → HasRead names mid new → HasRead (first ++ names) old new
+pub read_then : (first names : List (List ℕ)) (old mid new : FolderState) → HasRead first old mid → HasRead names mid new → HasRead (first ++ names) old new
 read_then first names old mid new a b =
     record { files = b.files ∙ a.files; calls = called_then first names old mid new a.calls b.calls; later = omega (arith, a.later, b.later) }
 

@@ -26,6 +26,9 @@ written_then writes write (Some files) = ap Some (sym (fold_push (λ g p. update
 pub written_as : (old new : Option Files) (name other bytes same : List ℕ) → new ≡ option_map (written name bytes) old → name ≡ other → bytes ≡ same → new ≡ option_map (written other same) old
 written_as old new name other bytes same is named given = is ∙ ap (λ n. option_map (written n bytes) old) named ∙ ap (λ b. option_map (written other b) old) given
 
+pub same_write : (a b x y : List ℕ) → a ≡ b → x ≡ y → ◌≡◌ {A = List ℕ × List ℕ} (a, x) (b, y)
+same_write a b x y named given = rw (named, given) refl
+
 pub called_as : (old new : Option (List (List ℕ))) (name other : List ℕ) → new ≡ gained (name ∷ []) old → name ≡ other → new ≡ gained (other ∷ []) old
 called_as old new name other is named = is ∙ ap (λ n. gained (n ∷ []) old) named
 

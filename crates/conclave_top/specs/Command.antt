@@ -1,5 +1,7 @@
 -- The command lines that are listed forms.
-use Rattle.std.specs.Prelude.{ℕ, Bool, true, false, List, [], ◌∷◌, Option, Some, None, if◌then◌else◌, codes, bytes_eq}
+use Rattle.std.specs.Prelude.{ℕ, nat_lt, Bool, true, false, ◌||◌, List, [], ◌∷◌, length, Option, Some, None, option_map, Result, Ok, Err, if◌then◌else◌, codes, bytes_eq}
+use Rattle.words.specs.Numbers.{number_of}
+use Rattle.words.specs.declared.num.ValueFault.{ValueFault}
 use Rattle.conclave_top.specs.declared.command.Form.{Form}
 use Rattle.conclave_top.specs.declared.command.Form.TheVariants as forms
 
@@ -9,6 +11,10 @@ pub data Command : Type 0 where
   plain : List ℕ → Command
   -- `plan Q`: who may know what of that query
   plan : List ℕ → Command
+  -- `tape Q SEED T`: the tapes of the seed for that query's plan, in the files of the name T
+  tape : List ℕ → ℕ → List ℕ → Command
+  -- `run Q T`: the answers and views of that query's plan, with the tapes of the name T
+  run : List ℕ → List ℕ → Command
 
 -- a word with no byte
 abbrev pub is_empty : List ℕ → Bool
@@ -19,14 +25,35 @@ is_empty (byte ∷ bytes) = false
 abbrev pub command_on : List ℕ → List ℕ → Option Command
 command_on word query = if bytes_eq word (codes "plain") then Some (plain query) else if bytes_eq word (codes "plan") then Some (plan query) else None
 
--- the command that a command line is, if it is a listed form: `plain Q` or `plan Q`, Q any word that isn't empty
+-- that of one that takes the name of tapes too
+abbrev pub command_over : List ℕ → List ℕ → List ℕ → Option Command
+command_over word query tapes = if bytes_eq word (codes "run") then Some (run query tapes) else None
+
+-- the number of a seed: 1 to 20 digits whose value fits a word
+abbrev pub if_number : Result ℕ ValueFault → Option ℕ
+if_number (Ok number) = Some number
+if_number (Err fault) = None
+
+abbrev pub seed_of : List ℕ → Option ℕ
+seed_of digits = if nat_lt 20 (length digits) then None else if_number (number_of digits)
+
+-- that of one that takes a seed between them
+abbrev pub command_from : List ℕ → List ℕ → List ℕ → List ℕ → Option Command
+command_from word query seed tapes = if bytes_eq word (codes "tape") then option_map (λ number. tape query number tapes) (seed_of seed) else None
+
+-- the command that a command line is, if it is a listed form: `plain Q`, `plan Q`, `tape Q SEED T` or `run Q T`, Q and T
+-- any words that aren't empty
 abbrev pub command_of : List (List ℕ) → Option Command
 command_of [] = None
 command_of (word ∷ []) = None
 command_of (word ∷ query ∷ []) = if is_empty query then None else command_on word query
-command_of (word ∷ query ∷ more ∷ words) = None
+command_of (word ∷ query ∷ tapes ∷ []) = if is_empty query || is_empty tapes then None else command_over word query tapes
+command_of (word ∷ query ∷ seed ∷ tapes ∷ []) = if is_empty query || is_empty tapes then None else command_from word query seed tapes
+command_of (word ∷ query ∷ seed ∷ tapes ∷ more ∷ words) = None
 
 -- the command that the code tells by a form
 abbrev pub command_in : Form → Command
 command_in (forms.Plain query) = plain query.now
 command_in (forms.Plan query) = plan query.now
+command_in (forms.Tape query seed tapes) = tape query.now seed tapes.now
+command_in (forms.Run query tapes) = run query.now tapes.now

@@ -1,3 +1,5 @@
+pub mod Added
+pub mod AnswerFiles
 pub mod Answers
 pub mod Bounds
 pub mod Command
@@ -13,6 +15,13 @@ pub mod Laws
 pub mod Lines
 pub mod Outcome
 pub mod Outside
+pub mod PartyFiles
 pub mod Plain
 pub mod PlanText
+pub mod Plans
 pub mod Relations
+pub mod Run
+pub mod Tape
+pub mod Tapes
+pub mod Views
+pub mod With

@@ -8,6 +8,8 @@ use Rattle.trust_sets.specs.declared.fault.TrustFault.{TrustFault}
 use Rattle.trust_sets.specs.declared.fault.TrustFault.TheVariants as trusts
 use Rattle.tables.specs.FaultText.{told}
 use Rattle.tables.specs.declared.fault.TableFault.{TableFault}
+use Rattle.tapes.specs.declared.tape_bytes.TapeFault.{TapeFault}
+use Rattle.tapes.specs.declared.tape_bytes.TapeFault.TheVariants as tapes
 use Rattle.words.specs.Columns.{names_of}
 use Rattle.words.specs.declared.column.Column.{Column}
 
@@ -70,6 +72,21 @@ not_built line = codes "refused: not built line " ++ (decimal line ++ line_end)
 -- the line of a file that is no table of a declaration of these columns
 abbrev pub file_line : List ℕ → List Column → TableFault → List ℕ
 file_line file columns fault = (codes "file " ++ (file ++ codes ": ")) ++ (told (names_of columns) fault ++ line_end)
+
+-- what is wrong with a tape, and at which draw; want of memory is no fault of it
+abbrev pub tape_fault : TapeFault → List ℕ
+tape_fault (tapes.Short draw) = codes "short at " ++ decimal draw
+tape_fault (tapes.Long draw) = codes "long at " ++ decimal draw
+tape_fault (tapes.NotOrder draw) = codes "not an order at " ++ decimal draw
+tape_fault tapes.Memory = []
+
+-- the line of a file that is no tape for a plan
+abbrev pub tape_line : List ℕ → TapeFault → List ℕ
+tape_line file fault = codes "tape " ++ (file ++ (codes ": " ++ (tape_fault fault ++ line_end)))
+
+-- the line of an answer that is written to a file, by its count of rows
+abbrev pub answer_line : List ℕ → ℕ → List ℕ
+answer_line file rows = file ++ (codes " " ++ (decimal rows ++ (codes " rows" ++ line_end)))
 
 -- the line of a fault of the folder or of the output
 abbrev pub outside_line : List ℕ

@@ -1,7 +1,7 @@
 //! The command line.
 
 ghost use Rattle.std.specs.Prelude.{◌≡◌, map, option_map, string_bytes};
-ghost use Rattle.conclave_top.specs.Command.{command_in, command_of, command_on};
+ghost use Rattle.conclave_top.specs.Command.{command_from, command_in, command_of, command_on, command_over, seed_of};
 ghost use Rattle.conclave_top.specs.Jobs.{CommandEnded};
 ghost use Rattle.conclave_top.specs.Outcome.{Outcome};
 ghost use Rattle.conclave_top.specs.Outside.{outside_at, ports_at};
@@ -10,16 +10,22 @@ use crate::end::End;
 use crate::finish::{finish, usage};
 use crate::plain::plain;
 use crate::plan::plan;
+use crate::run::run;
+use crate::tape::tape;
 use outside::{Folder, Sink};
 use std::alloc::Global;
+use words::read_num;
 
 /// Runs the command that the words are, over a folder, an output and a stream for errors, and gives its status.
 ///
 /// The words are the command line without the program's name. `plain Q` prints the answers of the query in the file Q
 /// over the files of the folder. `plan Q` reads that query alone, and prints who may know which of its rows and columns
-/// and who gets its outputs. The statuses are 0 (done), 1 (the words are no listed form), 2 (the query is refused),
-/// 3 (a file is no table of its declaration), 8 (the folder or the output failed) and 9 (no memory was left); each but 0
-/// comes with one line on the stream for errors. Own.
+/// and who gets its outputs. `tape Q SEED T` writes the tapes of the seed, 1 to 20 digits, for the query's plan to the
+/// files `T.1` to `T.3`. `run Q T` runs that plan with these tapes over the files of the folder: it writes what each party
+/// gets from the others to `T.view.1` to `T.view.3`, then each answer to a file, and prints a line for each answer.
+/// The statuses are 0 (done), 1 (the words are no listed form), 2 (the query is refused), 3 (a file is no table of its
+/// declaration), 4 (a tape isn't what the plan needs), 8 (the folder or the output failed) and 9 (no memory was left);
+/// each but 0 comes with one line on the stream for errors. Own.
 pub fn conclave<F: Folder, O: Sink, E: Sink>(
     alloc: Global,
     words: &Vec<String>,
@@ -33,7 +39,7 @@ pub fn conclave<F: Folder, O: Sink, E: Sink>(
 {
     match form_of(words) {
         Some(form) => {
-            let end = run(alloc, form, files, out);
+            let end = run_form(alloc, form, files, out);
             finish(&end, err)
         }
         None => usage(err),
@@ -42,17 +48,25 @@ pub fn conclave<F: Folder, O: Sink, E: Sink>(
 
 /// A command line of a listed form, by its words behind the first.
 #[derive(Clone, Copy)]
-enum Form<'a> {
+pub(crate) enum Form<'a> {
     Plain(&'a str),
     Plan(&'a str),
+    Tape(&'a str, u64, &'a str),
+    Run(&'a str, &'a str),
 }
 
 /// The form of a command line, where it has one.
-fn form_of(words: &Vec<String>) -> Option<Form<'_>>
+pub(crate) fn form_of(words: &Vec<String>) -> Option<Form<'_>>
     ensures { option_map command_in result ≡ command_of (map string_bytes words.now.items) }
 {
     match words.as_slice() {
         [word, query] if !query.is_empty() => form_on(word.as_str(), query.as_str()),
+        [word, query, tapes] if !query.is_empty() && !tapes.is_empty() => {
+            form_over(word.as_str(), query.as_str(), tapes.as_str())
+        }
+        [word, query, seed, tapes] if !query.is_empty() && !tapes.is_empty() => {
+            form_from(word.as_str(), query.as_str(), seed.as_str(), tapes.as_str())
+        }
         _ => None,
     }
 }
@@ -68,13 +82,48 @@ fn form_on<'a>(word: &str, query: &'a str) -> Option<Form<'a>>
     }
 }
 
+/// The form of a first word, the name of a query and that of tapes.
+fn form_over<'a>(word: &str, query: &'a str, tapes: &'a str) -> Option<Form<'a>>
+    ensures { option_map command_in result ≡ command_over word.now query.now tapes.now }
+{
+    match word {
+        "run" => Some(Form::Run(query, tapes)),
+        _ => None,
+    }
+}
+
+/// The form of a first word, the name of a query, a seed and the name of tapes.
+fn form_from<'a>(word: &str, query: &'a str, seed: &str, tapes: &'a str) -> Option<Form<'a>>
+    ensures { option_map command_in result ≡ command_from word.now query.now seed.now tapes.now }
+{
+    match word {
+        "tape" => Some(Form::Tape(query, seed_of(seed)?, tapes)),
+        _ => None,
+    }
+}
+
+/// The number of a seed, where it is 1 to 20 digits whose value fits a word.
+fn seed_of(digits: &str) -> Option<u64>
+    ensures { result ≡ seed_of digits.now }
+{
+    if digits.len() > 20 {
+        return None;
+    }
+    match read_num(digits.as_bytes()) {
+        Ok(number) => Some(number),
+        Err(_) => None,
+    }
+}
+
 /// Runs the command of a form.
-fn run<F: Folder, O: Sink>(alloc: Global, form: Form<'_>, files: &mut F, out: &mut O) -> End
+fn run_form<F: Folder, O: Sink>(alloc: Global, form: Form<'_>, files: &mut F, out: &mut O) -> End
     ensures { CommandEnded (command_in form.entry)
         (ports_at F.Folder O.Sink files.old out.old) (ports_at F.Folder O.Sink files.new out.new) result }
 {
     match form {
         Form::Plain(query) => plain(alloc, query, files, out),
         Form::Plan(query) => plan(alloc, query, files, out),
+        Form::Tape(query, seed, tapes) => tape(alloc, query, seed, tapes, files, out),
+        Form::Run(query, tapes) => run(alloc, query, tapes, files, out),
     }
 }

@@ -1,18 +1,18 @@
 //! What a command writes.
 
-ghost use Rattle.std.specs.Prelude.{[], map, IsErrOf, OnOk};
+ghost use Rattle.std.specs.Prelude.{◌≡◌, [], map, IsErrOf, OnErr, OnOk};
 ghost use Rattle.outside.specs.Cause.{HasCause};
 ghost use Rattle.conclave_top.specs.Deliver.{AreWritten, write_of};
 ghost use Rattle.conclave_top.specs.Due.{does};
 ghost use Rattle.conclave_top.specs.Effect.{IsCutOff};
 ghost use Rattle.conclave_top.specs.End.{Ended};
 ghost use Rattle.conclave_top.specs.Job.{only};
-ghost use Rattle.conclave_top.specs.Outside.{folder_at, ports_at};
+ghost use Rattle.conclave_top.specs.Outside.{folder_at, gained, ports_at};
 
 use crate::end::End;
 use outside::{Folder, FolderFault, OutFault, Sink};
 
-/// Writes files, in order and each whole, and then the output in one write, and ends the command.
+/// Writes files, in order and each whole, and then prints the output in one write, and ends the command.
 pub(crate) fn deliver<F: Folder, O: Sink>(
     writes: &[(String, Vec<u8>)],
     output: &[u8],
@@ -23,7 +23,7 @@ pub(crate) fn deliver<F: Folder, O: Sink>(
         (ports_at F.Folder O.Sink files.old out.old) (ports_at F.Folder O.Sink files.new out.new) result }
 {
     match write_all(writes, files) {
-        Ok(()) => match out.write(output) {
+        Ok(()) => match print(output, out) {
             Ok(()) => End::Done,
             Err(OutFault::Failed) => End::Outside,
             Err(OutFault::Memory) => End::Memory,
@@ -31,6 +31,18 @@ pub(crate) fn deliver<F: Folder, O: Sink>(
         Err(FolderFault::Failed) => End::Outside,
         Err(FolderFault::Memory) => End::Memory,
     }
+}
+
+/// Prints bytes in one write, and writes nothing where there is none.
+fn print<O: Sink>(bytes: &[u8], out: &mut O) -> Result<(), OutFault>
+    ensures printed { OnOk result (O.taken out.new ≡ gained bytes.now (O.taken out.old)) }
+    ensures err { OnErr result (O.taken out.new ≡ O.taken out.old) }
+    ensures cause { HasCause (O.faults out.old) (O.faults out.new) (IsErrOf result OutFault.Failed) }
+{
+    if bytes.is_empty() {
+        return Ok(());
+    }
+    out.write(bytes)
 }
 
 /// Writes files, in order and each whole, up to the first that isn't taken.

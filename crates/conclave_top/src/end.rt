@@ -15,6 +15,8 @@ pub(crate) enum Cause {
     Refused,
     /// A relation's file is no table of its declaration.
     Faulty,
+    /// A tape's file isn't what the plan needs.
+    Unfit,
 }
 
 impl Cause {
@@ -26,6 +28,7 @@ impl Cause {
             Cause::Usage => 1,
             Cause::Refused => 2,
             Cause::Faulty => 3,
+            Cause::Unfit => 4,
         }
     }
 }

@@ -1,11 +1,12 @@
 //! The lines of refusals and of faults of files.
 
-ghost use Rattle.std.specs.Prelude.{◌≡◌, ◌++◌, IfOk, slice_get};
-ghost use Rattle.conclave_top.specs.Lines.{column_of_node, file_line, graph_refused, name_of_column, name_of_node, not_built, text_refused, trust_refused, unreleased, untrusted};
+ghost use Rattle.std.specs.Prelude.{◌≡◌, ◌++◌, IfOk, slice_get, string_bytes};
+ghost use Rattle.conclave_top.specs.Lines.{answer_line, column_of_node, file_line, graph_refused, name_of_column, name_of_node, not_built, tape_fault, tape_line, text_refused, trust_refused, unreleased, untrusted};
 
 use query_graph::{GraphFault, Node};
 use std::alloc::{AllocError, Global};
 use tables::{TableFault, fault_text};
+use tapes::TapeFault;
 use trust_sets::TrustFault;
 use words::Column;
 
@@ -148,6 +149,35 @@ pub(crate) fn file_line(
     let before = format!(in alloc; "file {file}: ")?;
     let text = fault_text(alloc, fault, columns)?;
     around(alloc, &before, &text, "\n")
+}
+
+/// The line of a file that is no tape for a plan.
+pub(crate) fn tape_line(alloc: Global, file: &str, fault: TapeFault) -> Result<Vec<u8>, AllocError>
+    ensures { IfOk result (λ bytes. bytes.items ≡ tape_line file.now fault) }
+{
+    let fault = tape_fault(alloc, fault)?;
+    let text = format!(in alloc; "tape {file}: {fault}\n")?;
+    Ok(text.into_bytes())
+}
+
+/// What is wrong with a tape, and at which draw. For want of memory, which is no fault of it, it is empty.
+fn tape_fault(alloc: Global, fault: TapeFault) -> Result<String, AllocError>
+    ensures { IfOk result (λ text. string_bytes text ≡ tape_fault fault) }
+{
+    match fault {
+        TapeFault::Short { at } => format!(in alloc; "short at {at}"),
+        TapeFault::Long { at } => format!(in alloc; "long at {at}"),
+        TapeFault::NotOrder { at } => format!(in alloc; "not an order at {at}"),
+        TapeFault::Memory => Ok(String::new(alloc)),
+    }
+}
+
+/// The line of an answer that is written to a file.
+pub(crate) fn answer_line(alloc: Global, file: &str, rows: usize) -> Result<Vec<u8>, AllocError>
+    ensures { IfOk result (λ bytes. bytes.items ≡ answer_line file.now rows) }
+{
+    let text = format!(in alloc; "{file} {rows} rows\n")?;
+    Ok(text.into_bytes())
 }
 
 /// Bytes between two texts.

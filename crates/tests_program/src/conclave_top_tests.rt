@@ -3,14 +3,14 @@ use outside::{MemoryFolder, MemorySink};
 use std::alloc::{AllocError, Global};
 use std::test::Fail;
 
-const PEOPLE: &[u8] = b"ssn,zip\n100,02139\n101,02139\n102,94110\n103,10001\n";
+pub(crate) const PEOPLE: &[u8] = b"ssn,zip\n100,02139\n101,02139\n102,94110\n103,10001\n";
 
-const SCORES2: &[u8] = b"ssn,score\n100,700\n101,650\n102,600\n";
+pub(crate) const SCORES2: &[u8] = b"ssn,score\n100,700\n101,650\n102,600\n";
 
-const SCORES3: &[u8] = b"ssn,score\n100,710\n102,640\n999,500\n";
+pub(crate) const SCORES3: &[u8] = b"ssn,score\n100,710\n102,640\n999,500\n";
 
 /// Credit scores by zip code: what three files of three owners say together.
-const SCORES: &[u8] = b"relation people of 1 rows 4 (ssn num, zip text)
+pub(crate) const SCORES: &[u8] = b"relation people of 1 rows 4 (ssn num, zip text)
 relation scores2 of 2 rows 3 (ssn num trust 1, score num)
 relation scores3 of 3 rows 3 (ssn num trust 1, score num)
 scores = concat scores2 scores3
@@ -20,7 +20,7 @@ output byzip to 1
 ";
 
 /// The same with a bound.
-const BOUNDED: &[u8] = b"relation people of 1 rows 4 (ssn num, zip text)
+pub(crate) const BOUNDED: &[u8] = b"relation people of 1 rows 4 (ssn num, zip text)
 relation scores2 of 2 rows 3 (ssn num trust 1, score num)
 relation scores3 of 3 rows 3 (ssn num trust 1, score num)
 scores = concat scores2 scores3
@@ -58,7 +58,7 @@ pub(crate) fn is_left(run: &Run, status: u8, out: &[u8], line: &[u8], calls: &st
         && run.calls.as_str() == calls
 }
 
-fn words_of(alloc: Global, words: &[&str]) -> Result<Vec<String>, AllocError> {
+pub(crate) fn words_of(alloc: Global, words: &[&str]) -> Result<Vec<String>, AllocError> {
     let mut owned = Vec::new(alloc);
     for word in words {
         owned.push(String::from_str(alloc, word)?)?;
@@ -66,7 +66,7 @@ fn words_of(alloc: Global, words: &[&str]) -> Result<Vec<String>, AllocError> {
     Ok(owned)
 }
 
-fn folder_of(
+pub(crate) fn folder_of(
     alloc: Global,
     files: &[(&str, &[u8])],
     failing: &[u64],
@@ -79,7 +79,7 @@ fn folder_of(
     MemoryFolder::new(alloc, owned, Vec::from_slice(alloc, failing)?)
 }
 
-fn names_called(alloc: Global, folder: &MemoryFolder) -> Result<String, AllocError> {
+pub(crate) fn names_called(alloc: Global, folder: &MemoryFolder) -> Result<String, AllocError> {
     let mut calls = String::new(alloc);
     for name in folder.calls() {
         calls.push_str(name.as_str())?;

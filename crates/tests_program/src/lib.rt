@@ -9,4 +9,6 @@ mod conclave_top_fault_tests;
 #[cfg(test)]
 mod conclave_top_plan_tests;
 #[cfg(test)]
+mod conclave_top_run_tests;
+#[cfg(test)]
 mod conclave_top_tests;

@@ -8,10 +8,10 @@ use Rattle.conclave_top.proofs.command.conclave.Goals as goal
 pub returns-in-Some : goal.returns-in-Some
 returns-in-Some g c =
     let old = outside_at g.F.Folder g.O.Sink g.E.Sink c.args.files.now c.args.out.now c.args.err.now in
-    let new = outside_at g.F.Folder g.O.Sink g.E.Sink c.run-end.new.files c.run-end.new.out c.finish.new.err in
+    let new = outside_at g.F.Folder g.O.Sink g.E.Sink c.run_form-end.new.files c.run_form-end.new.out c.finish.new.err in
     let command = command_in c.in-Some.form in
     let form : command_of (map string_bytes c.args.words.now.items) ≡ Some command = search rules in
-    subst (λ some. OutcomeOf some old new c.finish.result) (sym form) (command_outcome command old new c.run-end.result c.finish.result c.run-end.ensures c.finish.ensures)
+    subst (λ some. OutcomeOf some old new c.finish.result) (sym form) (command_outcome command old new c.run_form-end.result c.finish.result c.run_form-end.ensures c.finish.ensures)
 
 pub returns-in-None : goal.returns-in-None
 returns-in-None g c =
