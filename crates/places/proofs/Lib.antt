@@ -1,3 +1,4 @@
 pub mod Small
 pub mod PlaceSteps
 pub mod FewRows
+pub mod Placed

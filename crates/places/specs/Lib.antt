@@ -2,3 +2,4 @@ pub mod Place
 pub mod Cost
 pub mod Bounds
 pub mod Places
+pub mod PlanText

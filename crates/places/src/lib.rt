@@ -4,6 +4,8 @@
 //! sum with the outputs, and the flags of its bounds. The main promise: `check_places` gives exactly these
 //! (`specs/Place.antt`, `specs/Cost.antt`, `specs/Bounds.antt`), or exactly the first bound that no party counts, or else
 //! the sum that is above the most.
+//!
+//! `plan_text` writes them down, each byte by `specs/PlanText.antt`.
 #![tactic(auto)]
 
 mod bounds;
@@ -14,8 +16,10 @@ mod opened;
 mod place;
 mod places;
 mod placing;
+mod plan;
 mod total;
 
 pub use check::check_places;
 pub use place::{Place, PlaceFault};
 pub use places::Places;
+pub use plan::plan_text;

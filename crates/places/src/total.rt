@@ -55,7 +55,7 @@ pub(crate) fn sum_of(words: &[u128]) -> u128
 }
 
 // The words that an output opens.
-fn output_words(graph: &Graph, rewritten: &Rewritten, output: &Output) -> u128
+pub(crate) fn output_words(graph: &Graph, rewritten: &Rewritten, output: &Output) -> u128
     requires made { rewritten.now ≡ rewritten_of graph.now }
     requires small { AreSmall graph.now.nodes }
     requires node { output.now.node < length graph.now.nodes }
