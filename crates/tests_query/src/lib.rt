@@ -1,4 +1,4 @@
-//! Tests of `query_text`, `query_graph`, `plain_operators`, `plain_meaning`, `trust_sets` and `rewrites` through
+//! Tests of `query_text`, `query_graph`, `plain_operators`, `plain_meaning`, `trust_sets`, `rewrites` and `places` through
 //! their public calls.
 //!
 //! Holds nothing else and promises nothing. A crate with tests is proved a second time with them, so the tests stand
@@ -9,6 +9,8 @@
 mod plain_meaning_tests;
 #[cfg(test)]
 mod plain_operators_tests;
+#[cfg(test)]
+mod plan_text_tests;
 #[cfg(test)]
 mod query_graph_refusal_tests;
 #[cfg(test)]
