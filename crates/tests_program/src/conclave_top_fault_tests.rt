@@ -79,6 +79,21 @@ const NO_FORMS: &[&[&str]] = &[
     &["--help"],
     &["Plain", "q.txt"],
     &["plain", "q.txt", "t"],
+    &["tape", "q.txt"],
+    &["tape", "q.txt", "7"],
+    &["tape", "q.txt", "7", "t", "t"],
+    &["tape", "", "7", "t"],
+    &["tape", "q.txt", "7", ""],
+    &["tape", "q.txt", "", "t"],
+    &["tape", "q.txt", "-1", "t"],
+    &["tape", "q.txt", "18446744073709551616", "t"],
+    &["tape", "q.txt", "000000000000000000007", "t"],
+    &["run"],
+    &["run", "q.txt"],
+    &["run", "", "t"],
+    &["run", "q.txt", ""],
+    &["run", "q.txt", "t", "123"],
+    &["Run", "q.txt", "t"],
 ];
 
 // The first of the word lists that is told something else than the usage.

@@ -9,6 +9,12 @@ mod conclave_top_fault_tests;
 #[cfg(test)]
 mod conclave_top_plan_tests;
 #[cfg(test)]
+mod conclave_top_random_tests;
+#[cfg(test)]
 mod conclave_top_run_tests;
 #[cfg(test)]
+mod conclave_top_tape_tests;
+#[cfg(test)]
 mod conclave_top_tests;
+#[cfg(test)]
+mod runs;
