@@ -1,11 +1,23 @@
-//! The and work of three parties, written by hand over std alone: `machine_peer LOG`, with 2^LOG AND words in all.
+//! The and work of three parties, written by hand over std alone: `machine_peer WORDS [ROUNDS]`, with so many AND words in all.
 //!
 //! Of each and it reads two shares of two registers and two masks a party, keeps the three new shares, and records what
-//! each party sends. It is the time that `bench/machine` compares with.
+//! each party sends. It is the time that `bench/machine` and `bench/run` compare with: it prints the microseconds of
+//! processor time of the least of several rounds, and then those on the clock.
 use std::time::Instant;
 
-const ROUNDS: usize = 3;
 const LANES: usize = 1 << 14;
+const OF_PROCESS: i32 = 2;
+
+// std tells no processor time; the C library that it stands on does.
+extern "C" {
+    fn clock_gettime(clock: i32, time: *mut [i64; 2]) -> i32;
+}
+
+fn processor_micros() -> u128 {
+    let mut time = [0i64; 2];
+    unsafe { clock_gettime(OF_PROCESS, &mut time) };
+    time[0] as u128 * 1_000_000 + time[1] as u128 / 1000
+}
 
 fn words(count: usize, mut state: u64) -> Vec<u64> {
     let next = || {
@@ -18,8 +30,9 @@ fn words(count: usize, mut state: u64) -> Vec<u64> {
 type Shares = [Vec<u64>; 3];
 
 fn and(s: &Shares, t: &Shares, masks: &[&[u64]; 3]) -> Shares {
-    let mut made: Shares = std::array::from_fn(|_| Vec::with_capacity(LANES));
-    for lane in 0..LANES {
+    let lanes = masks[0].len();
+    let mut made: Shares = std::array::from_fn(|_| Vec::with_capacity(lanes));
+    for lane in 0..lanes {
         for one in 0..3 {
             let next = (one + 1) % 3;
             let (a, b, c, d) = (s[one][lane], s[next][lane], t[one][lane], t[next][lane]);
@@ -29,11 +42,12 @@ fn and(s: &Shares, t: &Shares, masks: &[&[u64]; 3]) -> Shares {
     made
 }
 
-fn run(ands: usize, first: &Shares, other: &Shares, tapes: &Shares) -> ([Vec<u64>; 3], Vec<Shares>) {
+// Each and has as many words as a register, but the last one, which has the rest.
+fn run(words: usize, first: &Shares, other: &Shares, tapes: &Shares) -> ([Vec<u64>; 3], Vec<Shares>) {
     let mut links: [Vec<u64>; 3] = Default::default();
     let mut registers = Vec::new();
-    for number in 0..ands {
-        let masks = std::array::from_fn(|tape| &tapes[tape][number * LANES..(number + 1) * LANES]);
+    for start in (0..words).step_by(LANES) {
+        let masks = std::array::from_fn(|tape| &tapes[tape][start..words.min(start + LANES)]);
         let made = and(registers.last().unwrap_or(first), other, &masks);
         for (link, words) in links.iter_mut().zip(&made) {
             link.extend_from_slice(words);
@@ -44,17 +58,18 @@ fn run(ands: usize, first: &Shares, other: &Shares, tapes: &Shares) -> ([Vec<u64
 }
 
 fn main() {
-    let log: u32 = std::env::args().nth(1).and_then(|word| word.parse().ok()).unwrap_or(20);
-    let ands = (1usize << log) / LANES;
+    let number = |at| std::env::args().nth(at).and_then(|word| word.parse().ok());
+    let count: usize = number(1).unwrap_or(1 << 20);
     let first: Shares = std::array::from_fn(|share| words(LANES, share as u64));
     let other: Shares = std::array::from_fn(|share| words(LANES, 9 + share as u64));
-    let tapes: Shares = std::array::from_fn(|tape| words(ands * LANES, 99 + tape as u64));
-    let mut least = u128::MAX;
-    for _ in 0..ROUNDS {
-        let start = Instant::now();
-        let (links, registers) = run(ands, &first, &other, &tapes);
-        least = least.min(start.elapsed().as_micros());
+    let tapes: Shares = std::array::from_fn(|tape| words(count, 99 + tape as u64));
+    let mut least = [u128::MAX; 2];
+    for _ in 0..number(2).unwrap_or(3) {
+        let (clock, processor) = (Instant::now(), processor_micros());
+        let (links, registers) = run(count, &first, &other, &tapes);
+        least[0] = least[0].min(processor_micros() - processor);
+        least[1] = least[1].min(clock.elapsed().as_micros());
         println!("sent {} kept {}", links[0].len(), registers.len());
     }
-    println!("peer {least}");
+    println!("processor {}\npeer {}", least[0], least[1]);
 }
