@@ -35,7 +35,7 @@ passes : (b : Bool) (line number : ℕ) (rest : Option PlaceFault) → cond b re
 passes true line number rest none = (refl, none)
 passes false line number rest none = absurd cc
 
-counted_from : (known : List Known) (rewritten : Rewritten) (first : ℕ) (nodes : List Node) → first_uncounted known rewritten first nodes ≡ None → (k : ℕ) (n : Node) → slice_get nodes k ≡ Some n
+pub counted_from : (known : List Known) (rewritten : Rewritten) (first : ℕ) (nodes : List Node) → first_uncounted known rewritten first nodes ≡ None → (k : ℕ) (n : Node) → slice_get nodes k ≡ Some n
     → is_counted n.shape (node_place known rewritten (first + k) n.shape) (parts_at rewritten.parts (source_of n.shape)) ≡ true
 counted_from known rewritten first [] none k n at = absurd cc
 counted_from known rewritten first (m ∷ nodes) none zero n at =

@@ -2,3 +2,9 @@ pub mod Small
 pub mod PlaceSteps
 pub mod FewRows
 pub mod Placed
+pub mod FirstFlags
+pub mod PartyRows
+pub mod FirstBroken
+pub mod Pieces
+pub mod AcceptedPlaces
+pub mod PlacesInWords

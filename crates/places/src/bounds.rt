@@ -65,7 +65,7 @@ pub(crate) fn source_of(shape: &Operator) -> u32
     }
 }
 
-fn is_clear_at(part: &Part, party: u8) -> bool
+pub(crate) fn is_clear_at(part: &Part, party: u8) -> bool
     ensures { result ≡ is_clear_at party part.now }
 {
     match part.place {

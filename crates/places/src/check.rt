@@ -68,6 +68,7 @@ fn flags_of(
     Ok(flags)
 }
 
+#[tactic(auto, using(crate::proofs::AcceptedPlaces::places_count, crate::proofs::AcceptedPlaces::words_count))]
 /// Where each node is worked and at what price, or the first node with a bound that no party counts, or else the sum of
 /// the AND words, where it is above 8,388,608.
 pub fn check_places(
@@ -77,7 +78,9 @@ pub fn check_places(
     rewritten: &Rewritten,
 ) -> Result<Places, PlaceFault>
     requires { rewritten.now ≡ rewritten_of graph.now }
-    ensures { Gives result (checked graph.now trust.now.known rewritten.now) }
+    ensures exactly { Gives result (checked graph.now trust.now.known rewritten.now) }
+    ensures places { IfOk result (λ places. length places.places ≡ length graph.now.nodes) }
+    ensures words { IfOk result (λ places. length places.words ≡ length graph.now.nodes) }
 {
     nodes_have_parts();
     parts_add_up();

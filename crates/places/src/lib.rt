@@ -9,16 +9,20 @@
 #![tactic(auto)]
 
 mod bounds;
+mod broken;
 mod check;
 mod cost;
 mod flags;
+pub mod laws;
 mod opened;
+mod party_rows;
 mod place;
 mod places;
 mod placing;
 mod plan;
 mod total;
 
+pub use broken::excess;
 pub use check::check_places;
 pub use place::{Place, PlaceFault};
 pub use places::Places;
