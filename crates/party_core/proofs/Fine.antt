@@ -52,7 +52,7 @@ parties_apart v a b h k apart e = by (same_party v (party_of a)) refl where
   by true f = absurd (apart (sym (number_back a h) ∙ ap number_of (same_is v (party_of a) f ∙ sym (same_is v (party_of b) e)) ∙ number_back b k))
 
 module _ {T : Type 0} (accepts : T → List Shape → List Shape → Bool) where
-  fine_at : (l : Layout) (xs : List (Step T)) (s : Step T) (ys : List (Step T)) → AreFine accepts l (xs ++ s ∷ ys) → IsTrue (is_fine accepts (grown_by l xs) s)
+  pub fine_at : (l : Layout) (xs : List (Step T)) (s : Step T) (ys : List (Step T)) → AreFine accepts l (xs ++ s ∷ ys) → IsTrue (is_fine accepts (grown_by l xs) s)
   fine_at l [] s ys h = h.0
   fine_at l (x ∷ xs) s ys h = fine_at (grown l x) xs s ys h.1
 

@@ -9,4 +9,9 @@ mod OneParty
 mod CoreLaws
 mod Kept
 mod Moves
+mod Placed
+mod Misfitting
+mod Making
+mod Counting
+mod Leaving
 mod MovesLeft

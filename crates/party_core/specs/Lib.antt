@@ -5,3 +5,6 @@ pub mod Moves
 pub mod Reached
 pub mod Laws
 pub mod MoveLaws
+pub mod Holding
+pub mod Held
+pub mod Calls
