@@ -6,6 +6,12 @@
 #![tactic(auto)]
 
 #[cfg(test)]
+mod places_excess_tests;
+#[cfg(test)]
+mod places_script_tests;
+#[cfg(test)]
+mod places_tests;
+#[cfg(test)]
 mod plain_meaning_tests;
 #[cfg(test)]
 mod plain_operators_tests;
