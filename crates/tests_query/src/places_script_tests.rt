@@ -102,6 +102,9 @@ fn seeded_queries_are_as_the_script(rt: HostRuntime) -> Result<(), Fail> {
     let alloc = rt.alloc();
     assert_eq!(rt; first_other_node(alloc, TEXT_9, NODES_9)?, None);
     assert_eq!(rt; first_other_node(alloc, TEXT_18, NODES_18)?, None);
-    assert_eq!(rt; first_other_sum(alloc, &[(TEXT_9, Ok(2279)), (TEXT_18, Ok(2112))])?, None);
+    assert_eq!(rt;
+        first_other_sum(alloc, &[(TEXT_9, Ok(2279)), (TEXT_18, Ok(2112))])?,
+        None
+    );
     Ok(())
 }

@@ -135,7 +135,10 @@ const SUMS_OF_TEXTS: &[Sum] = &[
     (CREDIT, Ok(1298)),
     (LARGE_CREDIT, Ok(1_108_000)),
     (SECRET_CREDIT, Ok(26208)),
-    (UNCOUNTED_CREDIT, Err(PlaceFault::AtMost { line: 5, node: 4 })),
+    (
+        UNCOUNTED_CREDIT,
+        Err(PlaceFault::AtMost { line: 5, node: 4 }),
+    ),
     (SUMS, Ok(1_835_520)),
     (LARGE_SUMS, Err(PlaceFault::Cost { words: 29_362_176 })),
     (UP, Ok(180)),
@@ -176,7 +179,10 @@ pub(crate) fn first_other_node(
     let rewritten = rewrite(alloc, &graph)?;
     let places = check_places(alloc, &graph, &trust, &rewritten)?;
     for (number, _node) in graph.nodes().iter().enumerate() {
-        let made = (places.place_of(number as u32), places.and_words(number as u32));
+        let made = (
+            places.place_of(number as u32),
+            places.and_words(number as u32),
+        );
         if want.get(number) != Some(&made) {
             return Ok(Some(number));
         }

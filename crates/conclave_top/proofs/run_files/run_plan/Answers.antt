@@ -18,8 +18,8 @@ returns-clause-whole c =
     let formed : IsWellFormed accepts plan.list = subst (λ l. IsWellFormed accepts l) c.list.ensures.list c.steps.ensures.well_formed in
     if_ok c.run_list.result
     (λ run. λ is.
-      let slots : run.slots ≡ (open_of answer plan.list (first_slots_of plan tables) draws).slots =
-      subst (λ l. run.slots ≡ (open_of answer l (first_slots_of plan tables) draws).slots) c.list-2.ensures.list
-      (subst (λ ss. run.slots ≡ (open_of answer c.list-2.result.now ss draws).slots) same is) in
-      run_is_whole plan tables draws run.slots c.values_have_shapes.ensures formed c.requires.correct c.requires.world fit c.requires.tapes slots)
+    let slots : run.slots ≡ (open_of answer plan.list (first_slots_of plan tables) draws).slots =
+    subst (λ l. run.slots ≡ (open_of answer l (first_slots_of plan tables) draws).slots) c.list-2.ensures.list
+    (subst (λ ss. run.slots ≡ (open_of answer c.list-2.result.now ss draws).slots) same is) in
+    run_is_whole plan tables draws run.slots c.values_have_shapes.ensures formed c.requires.correct c.requires.world fit c.requires.tapes slots)
     c.run_list.ensures.slots
