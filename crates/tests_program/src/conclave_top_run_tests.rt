@@ -1,15 +1,17 @@
 //! Tapes and runs: the answers that stand in the folder, what is told, and which calls were made.
 
-use crate::conclave_top_tests::{
-    FAULT, PEOPLE, SCORES, SCORES2, SCORES3, folder_of, names_called, words_of,
-};
+ghost use Rattle.std.specs.Prelude.{IfOk, map, string_bytes};
+ghost use Rattle.conclave_top.specs.With.{TakesPlan};
+ghost use Rattle.lowering.specs.Plan.{Plan};
+
+use crate::conclave_top_tests::{FAULT, PEOPLE, SCORES, SCORES2, SCORES3, folder_of, names_called};
 use crate::runs::{
     Files, RUN, TAPE, bytes_of, call, call_failing, holds, is_printed, is_said, taped_run,
 };
 use conclave_top::conclave_with;
 use lowering::compile;
 use outside::{MemoryFolder, MemorySink};
-use std::alloc::Global;
+use std::alloc::{AllocError, Global};
 use std::test::Fail;
 
 const ANSWER: &[u8] = b"zip,total,n\n02139,2060,3\n94110,1240,2\n";
@@ -285,6 +287,29 @@ fn tape_and_run_refuse_the_same(rt: HostRuntime) -> Result<(), Fail> {
     Ok(())
 }
 
+// The words of `tape` that are handed in with a plan.
+fn words_of_tape(alloc: Global) -> Result<Vec<String>, AllocError>
+    ensures { IfOk result (λ words. (plan : Plan) → TakesPlan (map string_bytes words.items) plan) }
+{
+    let mut words = Vec::new(alloc);
+    words.push(String::from_str(alloc, "tape")?)?;
+    words.push(String::from_str(alloc, "none")?)?;
+    words.push(String::from_str(alloc, "7")?)?;
+    words.push(String::from_str(alloc, "t")?)?;
+    Ok(words)
+}
+
+// Those of `run`.
+fn words_of_run(alloc: Global) -> Result<Vec<String>, AllocError>
+    ensures { IfOk result (λ words. (plan : Plan) → TakesPlan (map string_bytes words.items) plan) }
+{
+    let mut words = Vec::new(alloc);
+    words.push(String::from_str(alloc, "run")?)?;
+    words.push(String::from_str(alloc, "none")?)?;
+    words.push(String::from_str(alloc, "t")?)?;
+    Ok(words)
+}
+
 #[test]
 fn a_plan_that_is_handed_in_runs_without_its_query(rt: HostRuntime) -> Result<(), Fail> {
     let alloc = rt.alloc();
@@ -292,9 +317,9 @@ fn a_plan_that_is_handed_in_runs_without_its_query(rt: HostRuntime) -> Result<()
     let mut folder = folder_of(alloc, STUDY, &[])?;
     let mut out = MemorySink::new(alloc, Vec::new(alloc));
     let mut err = MemorySink::new(alloc, Vec::new(alloc));
-    let words = words_of(alloc, &["tape", "none", "7", "t"])?;
+    let words = words_of_tape(alloc)?;
     let taped = conclave_with(alloc, &plan, &words, &mut folder, &mut out, &mut err);
-    let words = words_of(alloc, &["run", "none", "t"])?;
+    let words = words_of_run(alloc)?;
     let ran = conclave_with(alloc, &plan, &words, &mut folder, &mut out, &mut err);
     assert!(rt; taped == 0 && ran == 0 && out.bytes().as_slice() == LINE);
     assert!(rt; bytes_of(&folder, "byzip.to1.csv") == ANSWER);
