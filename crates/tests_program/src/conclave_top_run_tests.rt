@@ -2,14 +2,14 @@
 
 ghost use Rattle.std.specs.Prelude.{IfOk, map, string_bytes};
 ghost use Rattle.conclave_top.specs.With.{TakesPlan};
-ghost use Rattle.lowering.specs.Plan.{Plan};
+ghost use Rattle.lowering.specs.Plan.{IsCorrect, IsPlaced, Plan, ShowsAnswers};
 
-use crate::conclave_top_tests::{FAULT, PEOPLE, SCORES, SCORES2, SCORES3, folder_of, names_called};
+use crate::conclave_top_tests::{FAULT, PEOPLE, SCORES, SCORES2, SCORES3, folder_of};
 use crate::runs::{
-    Files, RUN, TAPE, bytes_of, call, call_failing, holds, is_printed, is_said, taped_run,
+    Files, RUN, Said, TAPE, bytes_of, call, call_failing, holds, is_printed, is_said, taped_run,
 };
 use conclave_top::conclave_with;
-use lowering::compile;
+use lowering::{Plan, compile};
 use outside::{MemoryFolder, MemorySink};
 use std::alloc::{AllocError, Global};
 use std::test::Fail;
@@ -287,19 +287,7 @@ fn tape_and_run_refuse_the_same(rt: HostRuntime) -> Result<(), Fail> {
     Ok(())
 }
 
-// The words of `tape` that are handed in with a plan.
-fn words_of_tape(alloc: Global) -> Result<Vec<String>, AllocError>
-    ensures { IfOk result (λ words. (plan : Plan) → TakesPlan (map string_bytes words.items) plan) }
-{
-    let mut words = Vec::new(alloc);
-    words.push(String::from_str(alloc, "tape")?)?;
-    words.push(String::from_str(alloc, "none")?)?;
-    words.push(String::from_str(alloc, "7")?)?;
-    words.push(String::from_str(alloc, "t")?)?;
-    Ok(words)
-}
-
-// Those of `run`.
+// The words of a run, without a query.
 fn words_of_run(alloc: Global) -> Result<Vec<String>, AllocError>
     ensures { IfOk result (λ words. (plan : Plan) → TakesPlan (map string_bytes words.items) plan) }
 {
@@ -310,23 +298,26 @@ fn words_of_run(alloc: Global) -> Result<Vec<String>, AllocError>
     Ok(words)
 }
 
-#[test]
-fn a_plan_that_is_handed_in_runs_without_its_query(rt: HostRuntime) -> Result<(), Fail> {
-    let alloc = rt.alloc();
-    let plan = compile(alloc, SCORES)?;
-    let mut folder = folder_of(alloc, STUDY, &[])?;
+// A run by a plan that is handed in.
+fn run_with(alloc: Global, plan: &Plan, folder: &mut MemoryFolder) -> Result<Said, Fail>
+    requires correct { IsCorrect plan.now }
+    requires shows { ShowsAnswers plan.now }
+    requires placed { IsPlaced plan.now }
+{
+    let words = words_of_run(alloc)?;
     let mut out = MemorySink::new(alloc, Vec::new(alloc));
     let mut err = MemorySink::new(alloc, Vec::new(alloc));
-    let words = words_of_tape(alloc)?;
-    let taped = conclave_with(alloc, &plan, &words, &mut folder, &mut out, &mut err);
-    let words = words_of_run(alloc)?;
-    let ran = conclave_with(alloc, &plan, &words, &mut folder, &mut out, &mut err);
-    assert!(rt; taped == 0 && ran == 0 && out.bytes().as_slice() == LINE);
+    let status = conclave_with(alloc, plan, &words, folder, &mut out, &mut err);
+    Ok(Said { status, out, err })
+}
+
+#[test]
+fn a_plan_that_is_handed_in_runs_without_its_query(rt: HostRuntime) -> Result<(), Fail> {
+    let plan = compile(rt.alloc(), SCORES)?;
+    let mut folder = folder_of(rt.alloc(), STUDY, &[])?;
+    let _ = call(rt.alloc(), TAPE, &mut folder)?;
+    let said = run_with(rt.alloc(), &plan, &mut folder)?;
+    assert!(rt; is_said(&said, 0, LINE, b""));
     assert!(rt; bytes_of(&folder, "byzip.to1.csv") == ANSWER);
-    let calls = names_called(alloc, &folder)?;
-    assert!(rt;
-        calls.as_str()
-            == "t.1 t.2 t.3 people.csv scores2.csv scores3.csv t.1 t.2 t.3 t.view.1 t.view.2 t.view.3 byzip.to1.csv "
-    );
     Ok(())
 }
