@@ -5,7 +5,15 @@
 #![tactic(auto)]
 
 #[cfg(test)]
+mod alone_tests;
+#[cfg(test)]
 mod made;
+#[cfg(test)]
+mod random_lists;
+#[cfg(test)]
+mod random_tests;
+#[cfg(test)]
+mod random_worlds;
 #[cfg(test)]
 mod twin_tests;
 #[cfg(test)]

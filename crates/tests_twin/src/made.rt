@@ -73,17 +73,29 @@ pub(crate) fn tell(list: &mut List, source: u8, target: u8, slot: u32) -> Result
     push(list, step)
 }
 
-/// An order of three that a party makes of a slot of three words.
-pub(crate) fn turn(rt: &HostRuntime, list: &mut List, party: u8, slot: u32) -> Result<(), Fail> {
+/// A task over one slot that gives one.
+pub(crate) fn work(
+    rt: &HostRuntime,
+    list: &mut List,
+    party: u8,
+    task: TestTask,
+    slot: u32,
+    gives: Shape,
+) -> Result<(), Fail> {
     let takes = numbers(rt, &[slot])?;
-    let gives = Listed::from_slice(rt.alloc(), &[Shape::OrderOf(3)])?;
+    let gives = Listed::from_slice(rt.alloc(), &[gives])?;
     let step = Step::Work {
         party,
-        task: TestTask::Turns,
+        task,
         takes,
         gives,
     };
     push(list, step)
+}
+
+/// An order of three that a party makes of a slot of three words.
+pub(crate) fn turn(rt: &HostRuntime, list: &mut List, party: u8, slot: u32) -> Result<(), Fail> {
+    work(rt, list, party, TestTask::Turns, slot, Shape::OrderOf(3))
 }
 
 pub(crate) fn vectors(alloc: Global, slots: &[&[u64]]) -> Result<Vec<Vec<u64>>, AllocError> {

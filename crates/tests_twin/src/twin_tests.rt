@@ -119,7 +119,8 @@ fn told_list(rt: &HostRuntime) -> Result<List, Fail> {
 }
 
 fn flagged_list(rt: &HostRuntime) -> Result<List, Fail> {
-    let mut list = one_share(rt)?;
+    let mut list = list_of(rt, &[1], &[], &[])?;
+    tell(&mut list, 1, 3, 0)?;
     push(&mut list, Step::Flag { party: 1, slot: 0 })?;
     Ok(list)
 }
@@ -144,7 +145,7 @@ fn other_words_told_or_flagged_are_named(rt: HostRuntime) -> Result<(), Fail> {
         &rt,
         &flagged_list(&rt)?,
         (&one, &other),
-        &share_tapes(&rt)?,
+        &no_tapes(&rt)?,
         1,
         rows,
     )?;

@@ -111,9 +111,8 @@ pub(crate) fn same_view(run: &JointRun, other: &JointRun, viewer: u8) -> bool {
     }
 }
 
-/// Whether the second world under the twin looks to the viewer like the first, though it doesn't under the old tapes,
-/// and the twin back is the old tape.
-pub(crate) fn explains(
+/// Whether the words that the viewer receives in the two worlds differ under the same tapes.
+pub(crate) fn differ(
     rt: &HostRuntime,
     list: &List,
     viewer: u8,
@@ -123,10 +122,38 @@ pub(crate) fn explains(
 ) -> Result<bool, Fail> {
     let run = joint_run(rt.alloc(), list, slots, tapes)?;
     let plain = joint_run(rt.alloc(), list, other, tapes)?;
+    Ok(!same_view(&run, &plain, viewer))
+}
+
+/// Whether the second world under the twin looks to the viewer like the first, and the twin back is the old tape.
+pub(crate) fn are_paired(
+    rt: &HostRuntime,
+    list: &List,
+    viewer: u8,
+    slots: &Slots,
+    other: &Slots,
+    tapes: &Tapes,
+) -> Result<bool, Fail> {
+    let run = joint_run(rt.alloc(), list, slots, tapes)?;
     let twin = made_twin(rt, list, viewer, slots, other, tapes)?;
     let paired = with_twin(rt, tapes, viewer, &twin)?;
     let looks = joint_run(rt.alloc(), list, other, &paired)?;
     let back = made_twin(rt, list, viewer, other, slots, &paired)?;
-    let same = same_view(&run, &looks, viewer) && !same_view(&run, &plain, viewer);
-    Ok(same && run.stopped() == looks.stopped() && same_tape(&back, unseen(tapes, viewer)))
+    let same = same_view(&run, &looks, viewer) && run.stopped() == looks.stopped();
+    Ok(same && same_tape(&back, unseen(tapes, viewer)))
+}
+
+/// Whether two worlds that differ under the tapes are paired by the twin.
+pub(crate) fn explains(
+    rt: &HostRuntime,
+    list: &List,
+    viewer: u8,
+    slots: &Slots,
+    other: &Slots,
+    tapes: &Tapes,
+) -> Result<bool, Fail> {
+    Ok(
+        differ(rt, list, viewer, slots, other, tapes)?
+            && are_paired(rt, list, viewer, slots, other, tapes)?,
+    )
 }

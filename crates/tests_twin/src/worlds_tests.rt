@@ -7,8 +7,8 @@ use std::test::Fail;
 use step_lists::{LinOp, Slots, Step, list_needs};
 use tapes::make_tapes;
 
-// Whether the second world is explained on tapes from a seed.
-fn is_explained(
+/// Whether the second world is explained on tapes from a seed.
+pub(crate) fn is_explained(
     rt: &HostRuntime,
     list: &List,
     viewer: u8,
@@ -30,15 +30,16 @@ fn three_slots(
     slots(rt, &[first], &[second], &[third])
 }
 
-fn first_world(rt: &HostRuntime) -> Result<Slots, Fail> {
+/// Three words of each party.
+pub(crate) fn first_world(rt: &HostRuntime) -> Result<Slots, Fail> {
     three_slots(rt, &[7, 0, 5], &[2, 90, 91], &[u64::MAX, 1, 2])
 }
 
-// The other world of a viewer: only its own slot is the same.
-fn other_world(rt: &HostRuntime, viewer: u8) -> Result<Slots, Fail> {
+/// The other world of a viewer: only its own slot is the same.
+pub(crate) fn other_world(rt: &HostRuntime, viewer: u8) -> Result<Slots, Fail> {
     match viewer {
-        1 => three_slots(rt, &[7, 0, 5], &[4, 80, 17], &[30, 1, 9]),
-        2 => three_slots(rt, &[6, 12, 5], &[2, 90, 91], &[30, 1, 9]),
+        1 => three_slots(rt, &[7, 0, 5], &[4, 80, 17], &[31, 1, 9]),
+        2 => three_slots(rt, &[6, 12, 5], &[2, 90, 91], &[31, 1, 9]),
         _ => three_slots(rt, &[6, 12, 5], &[4, 80, 17], &[u64::MAX, 1, 2]),
     }
 }
