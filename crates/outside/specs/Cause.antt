@@ -1,4 +1,4 @@
-use Rattle.std.specs.Prelude.{ℕ, ◌+◌, ◌-◌, ◌^◌, ◌≤◌, min}
+use Rattle.std.specs.Prelude.{◌≡◌, ℕ, ◌+◌, ◌-◌, ◌^◌, ◌≤◌, min}
 
 -- a count of faults rose, or stands at the end of its type
 abbrev pub Rose : ℕ → ℕ → Type 0
@@ -8,3 +8,7 @@ Rose before now = min (before + 1) (2 ^ 64 - 1) ≤ now
 pub record HasCause (before now : ℕ) (failed : Type 0) : Type 0 where
   pub later : before ≤ now
   pub rose : failed → Rose before now
+
+-- and in a call that didn't fail it stands
+abbrev pub StandsUnless : Type 0 → ℕ → ℕ → Type 0
+StandsUnless failed before now = ¬ failed → now ≡ before

@@ -1,6 +1,6 @@
 ghost use Rattle.std.specs.Prelude.{◌≡◌, ℕ, List, Option, IfOk, OnOk, OnErr, IsErrOf, option_map};
 ghost use Rattle.outside.specs.Folder.{Files, Holds, written, called};
-ghost use Rattle.outside.specs.Cause.{HasCause};
+ghost use Rattle.outside.specs.Cause.{HasCause, StandsUnless};
 
 use std::alloc::{AllocError, AllocFailed};
 use thiserror::Error;
@@ -54,12 +54,14 @@ pub trait Folder {
         ensures bytes { IfOk result (λ bytes. Holds (files self.old) name.now bytes.items) }
         ensures same { files self.new ≡ files self.old }
         ensures calls { calls self.new ≡ called name.now result (calls self.old) }
-        ensures cause { HasCause (faults self.old) (faults self.new) (IsErrOf result FolderFault.Failed) };
+        ensures cause { HasCause (faults self.old) (faults self.new) (IsErrOf result FolderFault.Failed) }
+        ensures stands { StandsUnless (IsErrOf result FolderFault.Failed) (faults self.old) (faults self.new) };
 
     /// Sets the file of this name to these bytes and leaves all others. After a fault all files are as they were.
     fn write(&mut self, name: &str, bytes: &[u8]) -> Result<(), FolderFault>
         ensures written { OnOk result (files self.new ≡ option_map (written name.now bytes.now) (files self.old)) }
         ensures err { OnErr result (files self.new ≡ files self.old) }
         ensures calls { calls self.new ≡ called name.now result (calls self.old) }
-        ensures cause { HasCause (faults self.old) (faults self.new) (IsErrOf result FolderFault.Failed) };
+        ensures cause { HasCause (faults self.old) (faults self.new) (IsErrOf result FolderFault.Failed) }
+        ensures stands { StandsUnless (IsErrOf result FolderFault.Failed) (faults self.old) (faults self.new) };
 }

@@ -2,7 +2,7 @@
 //!
 //! It stands on no other crate of the repository. A `Folder` is seen as the files that it holds and the names that
 //! were called, where it tells them, and a count of its faults; a `Sink` as the bytes that it took. The main promise:
-//! a call answers `Failed` only where that object's count of faults rose in the call, and after it nothing has changed.
+//! an object's count of faults rises exactly in a call that answers `Failed`, and after it nothing that is told has changed.
 #![tactic(auto)]
 
 mod disk_folder;

@@ -1,6 +1,6 @@
 ghost use Rattle.std.specs.Prelude.{◌≡◌, [], ◌||◌, Some, map, string_bytes, IfOk, OnOk, OnErr, IsErrOf, option_map, option_copied, is_none};
 ghost use Rattle.outside.specs.Folder.{Holds, written, called};
-ghost use Rattle.outside.specs.Cause.{HasCause};
+ghost use Rattle.outside.specs.Cause.{HasCause, StandsUnless};
 
 use crate::folder::{Folder, FolderFault};
 use std::alloc::{AllocError, Global};
@@ -91,6 +91,7 @@ impl Folder for MemoryFolder {
         ensures same { files_of self.new ≡ files_of self.old }
         ensures calls { Some (calls_of self.new) ≡ called name.now result (Some (calls_of self.old)) }
         ensures cause { HasCause (failed_calls self.old) (failed_calls self.new) (IsErrOf result FolderFault.Failed) }
+        ensures stands { StandsUnless (IsErrOf result FolderFault.Failed) (failed_calls self.old) (failed_calls self.new) }
         ensures exact { FailsExactly (is_listed self.old || is_none (files_of self.old name.now)) result }
         ensures counted { failed_calls self.new ≡ faults_after result (failed_calls self.old) }
         ensures list { failing_of self.new ≡ failing_of self.old }
@@ -114,6 +115,7 @@ impl Folder for MemoryFolder {
         ensures err { OnErr result (files_of self.new ≡ files_of self.old) }
         ensures calls { Some (calls_of self.new) ≡ called name.now result (Some (calls_of self.old)) }
         ensures cause { HasCause (failed_calls self.old) (failed_calls self.new) (IsErrOf result FolderFault.Failed) }
+        ensures stands { StandsUnless (IsErrOf result FolderFault.Failed) (failed_calls self.old) (failed_calls self.new) }
         ensures exact { FailsExactly (is_listed self.old) result }
         ensures counted { failed_calls self.new ≡ faults_after result (failed_calls self.old) }
         ensures list { failing_of self.new ≡ failing_of self.old }

@@ -1,5 +1,5 @@
 ghost use Rattle.std.specs.Prelude.{◌≡◌, [], OnOk, OnErr, IsErrOf, option_map, ◌++◌, Some, ◌+◌, ◌^◌, ◌-◌, min};
-ghost use Rattle.outside.specs.Cause.{HasCause};
+ghost use Rattle.outside.specs.Cause.{HasCause, StandsUnless};
 
 use crate::sink::{OutFault, Sink};
 use std::alloc::Global;
@@ -59,6 +59,7 @@ impl Sink for MemorySink {
         ensures written { OnOk result (Some (bytes_of self.new) ≡ option_map (λ before. before ++ bytes.now) (Some (bytes_of self.old))) }
         ensures err { OnErr result (bytes_of self.new ≡ bytes_of self.old) }
         ensures cause { HasCause (failed_writes self.old) (failed_writes self.new) (IsErrOf result OutFault.Failed) }
+        ensures stands { StandsUnless (IsErrOf result OutFault.Failed) (failed_writes self.old) (failed_writes self.new) }
         ensures exact { FailsExactly (is_listed self.old) result }
         ensures counted { failed_writes self.new ≡ faults_after result (failed_writes self.old) }
         ensures list { failing_of self.new ≡ failing_of self.old }

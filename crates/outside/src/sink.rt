@@ -1,5 +1,5 @@
 ghost use Rattle.std.specs.Prelude.{◌≡◌, ℕ, List, Option, OnOk, OnErr, IsErrOf, option_map, ◌++◌};
-ghost use Rattle.outside.specs.Cause.{HasCause};
+ghost use Rattle.outside.specs.Cause.{HasCause, StandsUnless};
 
 use std::alloc::{AllocError, AllocFailed};
 use thiserror::Error;
@@ -50,5 +50,6 @@ pub trait Sink {
     fn write(&mut self, bytes: &[u8]) -> Result<(), OutFault>
         ensures written { OnOk result (taken self.new ≡ option_map (λ before. before ++ bytes.now) (taken self.old)) }
         ensures err { OnErr result (taken self.new ≡ taken self.old) }
-        ensures cause { HasCause (faults self.old) (faults self.new) (IsErrOf result OutFault.Failed) };
+        ensures cause { HasCause (faults self.old) (faults self.new) (IsErrOf result OutFault.Failed) }
+        ensures stands { StandsUnless (IsErrOf result OutFault.Failed) (faults self.old) (faults self.new) };
 }

@@ -1,5 +1,5 @@
 ghost use Rattle.std.specs.Prelude.{◌≡◌};
-ghost use Rattle.outside.specs.Cause.{HasCause};
+ghost use Rattle.outside.specs.Cause.{HasCause, StandsUnless};
 
 use crate::sink::{OutFault, Sink};
 use std::io::ErrorKind;
@@ -56,7 +56,8 @@ impl<'a, R: Print + Eprint> StdSink<'a, R> {
 
     /// What a stream answers to this error, which it counts where it is a failure.
     fn fault_of(&mut self, kind: ErrorKind) -> OutFault
-        ensures { HasCause (failed_writes self.old) (failed_writes self.new) (result ≡ OutFault.Failed) }
+        ensures cause { HasCause (failed_writes self.old) (failed_writes self.new) (result ≡ OutFault.Failed) }
+        ensures stands { StandsUnless (result ≡ OutFault.Failed) (failed_writes self.old) (failed_writes self.new) }
     {
         if kind == ErrorKind::OutOfMemory {
             return OutFault::Memory;
