@@ -1,0 +1,4 @@
+pub mod Parts
+pub mod Columns
+pub mod Nodes
+pub mod Graphs
