@@ -6,21 +6,23 @@ use Rattle.query_graph.specs.Build.{graph_of}
 use Rattle.query_graph.specs.Content.{Content}
 use Rattle.query_graph.specs.TextGraph.{TextsHaveGraphs}
 use Rattle.tapes.specs.Laws.{MadeTapeIsOnly}
+use Rattle.trust_sets.specs.Differs.{DifferencesAreOne}
 use Rattle.conclave_top.specs.declared.end.Cause.TheVariants.{Refused}
+use Rattle.conclave_top.specs.Audit.{audit_job}
 use Rattle.conclave_top.specs.Bounds.{first_bound}
-use Rattle.conclave_top.specs.Command.{Command, plain, plan, tape, run}
+use Rattle.conclave_top.specs.Command.{Command, plain, plan, tape, run, audit}
 use Rattle.conclave_top.specs.Compile.{IsCompiled, IsRefusedText, graphs, refusal_of}
 use Rattle.conclave_top.specs.Due as dues
 use Rattle.conclave_top.specs.Job.{Compilation, HasQueryJob, Job, refusal}
 use Rattle.conclave_top.specs.Jobs.{HasJob, IsDue}
 use Rattle.conclave_top.specs.Laws.{IsOfText, OneDue}
-use Rattle.conclave_top.specs.Lines.{text_refused}
+use Rattle.lowering.specs.Lines.{text_refused}
 use Rattle.conclave_top.specs.Plain.{plain_job}
 use Rattle.conclave_top.specs.Plans.{plans}
 use Rattle.conclave_top.specs.PlanText.{plan_job, plan_text}
 use Rattle.conclave_top.specs.Run.{run_job}
 use Rattle.conclave_top.specs.Tape.{tape_job}
-use Rattle.conclave_top.proofs.OneJobs.{HasOneDue, IsReadyDone, IsUnrefused, one_behind, one_for, one_only, one_ran, one_taped, ready_behind, ready_for, ready_only, ready_ran, ready_taped, unrefused_ran, unrefused_taped}
+use Rattle.conclave_top.proofs.OneJobs.{HasOneDue, IsReadyDone, IsUnrefused, one_audit, one_behind, one_for, one_only, one_ran, one_taped, ready_audit, ready_behind, ready_for, ready_only, ready_ran, ready_taped, unrefused_audit, unrefused_ran, unrefused_taped}
 use Rattle.conclave_top.proofs.RefusedPlans.{not_planned, one_plan_line, same_of_some, some_is_not_none}
 
 -- a text is refused a graph with one line
@@ -68,16 +70,18 @@ one_on_job : {P : Type 0} (files : Files) (query : List ℕ) (compilation : Comp
 one_on_job files query compilation jobs lines one first second (inl both) = one_refusal files query compilation lines first second both.0 both.1
 one_on_job files query compilation jobs lines one first second (inr on) = one_behind (query ∷ []) (jobs on.plan) (one on.plan) first second on.job.0 on.job.1
 
-one_for_a_job : HasOneReading → TextsHaveGraphs → MadeTapeIsOnly → (files : Files) (command : Command) (first second : dues.Due)
+one_for_a_job : HasOneReading → TextsHaveGraphs → MadeTapeIsOnly → DifferencesAreOne → (files : Files) (command : Command) (first second : dues.Due)
     → HasJob (Some files) command (λ job. job.due first × job.due second) → first ≡ second
-one_for_a_job reading texts made files (plain query) first second =
+one_for_a_job reading texts made differ files (plain query) first second =
     one_on_job files query graphs (plain_job (Some files)) (same_refusal reading) (λ graph. one_for files graph (first_bound graph.nodes)) first second
-one_for_a_job reading texts made files (plan query) first second =
+one_for_a_job reading texts made differ files (plan query) first second =
     one_on_job files query graphs plan_job (same_refusal reading) (λ graph. one_only (dues.does [] [] (plan_text graph))) first second
-one_for_a_job reading texts made files (tape query seed tapes) first second =
+one_for_a_job reading texts made differ files (tape query seed tapes) first second =
     one_on_job files query plans (tape_job seed tapes) (one_plan_line reading texts) (λ on. one_taped made seed tapes on) first second
-one_for_a_job reading texts made files (run query tapes) first second =
+one_for_a_job reading texts made differ files (run query tapes) first second =
     one_on_job files query plans (run_job (Some files) tapes) (one_plan_line reading texts) (λ on. one_ran files tapes on) first second
+one_for_a_job reading texts made differ files (audit query asked) first second =
+    one_on_job files query plans (audit_job (Some files) asked) (one_plan_line reading texts) (λ on. one_audit differ files asked on) first second
 
 -- for a command whose plan is its query's graph
 one_on_graph : HasOneReading → TextsHaveGraphs → (files : Files) (query : List ℕ) (jobs : Content → Job) → ((graph : Content) → HasOneDue (jobs graph)) → (first second : dues.Due)
@@ -115,6 +119,9 @@ one_for_a_command reading texts files (tape query seed tapes) first second (inr 
 one_for_a_command reading texts files (run query tapes) first second (inl on) a b = absurd on
 one_for_a_command reading texts files (run query tapes) first second (inr two) a b =
     one_refused files query plans (run_job (Some files) tapes) (one_plan_line reading texts) (plans_either texts) (λ on. unrefused_ran (Some files) tapes on) first second two a b
+one_for_a_command reading texts files (audit query asked) first second (inl on) a b = absurd on
+one_for_a_command reading texts files (audit query asked) first second (inr two) a b =
+    one_refused files query plans (audit_job (Some files) asked) (one_plan_line reading texts) (plans_either texts) (λ on. unrefused_audit (Some files) asked on) first second two a b
 
 -- where a job is ready its result is due
 ready_on_job : {P : Type 0} (files : Files) (query : List ℕ) (compilation : Compilation P) (jobs : P → Job) → ((on : P) → IsReadyDone (jobs on))
@@ -122,15 +129,16 @@ ready_on_job : {P : Type 0} (files : Files) (query : List ℕ) (compilation : Co
 ready_on_job files query compilation jobs done due (inl both) = absurd both.0
 ready_on_job files query compilation jobs done due (inr on) = ready_behind (query ∷ []) (jobs on.plan) (done on.plan) due on.job.0 on.job.1
 
-ready_for_a_job : (files : Files) (command : Command) (due : dues.Due) → HasJob (Some files) command (λ job. job.ready × job.due due) → due.status ≡ 0
-ready_for_a_job files (plain query) due = ready_on_job files query graphs (plain_job (Some files)) (λ graph. ready_for files graph (first_bound graph.nodes)) due
-ready_for_a_job files (plan query) due = ready_on_job files query graphs plan_job (λ graph. ready_only (dues.does [] [] (plan_text graph))) due
-ready_for_a_job files (tape query seed tapes) due = ready_on_job files query plans (tape_job seed tapes) (λ on. ready_taped seed tapes on) due
-ready_for_a_job files (run query tapes) due = ready_on_job files query plans (run_job (Some files) tapes) (λ on. ready_ran files tapes on) due
+ready_for_a_job : DifferencesAreOne → (files : Files) (command : Command) (due : dues.Due) → HasJob (Some files) command (λ job. job.ready × job.due due) → due.status ≡ 0
+ready_for_a_job differ files (plain query) due = ready_on_job files query graphs (plain_job (Some files)) (λ graph. ready_for files graph (first_bound graph.nodes)) due
+ready_for_a_job differ files (plan query) due = ready_on_job files query graphs plan_job (λ graph. ready_only (dues.does [] [] (plan_text graph))) due
+ready_for_a_job differ files (tape query seed tapes) due = ready_on_job files query plans (tape_job seed tapes) (λ on. ready_taped seed tapes on) due
+ready_for_a_job differ files (run query tapes) due = ready_on_job files query plans (run_job (Some files) tapes) (λ on. ready_ran files tapes on) due
+ready_for_a_job differ files (audit query asked) due = ready_on_job files query plans (audit_job (Some files) asked) (λ on. ready_audit differ files asked on) due
 
-pub one_due : HasOneReading → TextsHaveGraphs → MadeTapeIsOnly → OneDue
-one_due reading texts made = record {
-  for_a_job = λ files command first second both. one_for_a_job reading texts made files command first second both;
+pub one_due : HasOneReading → TextsHaveGraphs → MadeTapeIsOnly → DifferencesAreOne → OneDue
+one_due reading texts made differ = record {
+  for_a_job = λ files command first second both. one_for_a_job reading texts made differ files command first second both;
   for_a_command = λ files command first second by a b. one_for_a_command reading texts files command first second by a b;
-  when_ready = λ files command due both. ready_for_a_job files command due both;
+  when_ready = λ files command due both. ready_for_a_job differ files command due both;
 }

@@ -5,15 +5,19 @@ use Rattle.outside.specs.Folder.{Files}
 use Rattle.lanes.specs.declared.three.Three.{Three}
 use Rattle.lowering.specs.Plan.{Plan}
 use Rattle.query_graph.specs.Content.{Content}
+use Rattle.step_lists.specs.Draws.{ThreeTapes}
 use Rattle.tables.specs.Content as table
 use Rattle.conclave_top.specs.declared.end.Cause.{Cause}
-use Rattle.conclave_top.specs.declared.end.Cause.TheVariants.{Faulty, Refused, Unfit}
+use Rattle.conclave_top.specs.declared.end.Cause.TheVariants.{Disagree, Faulty, Refused, Unfit}
 use Rattle.conclave_top.specs.Answers.{printed}
+use Rattle.conclave_top.specs.Audit.{Worlds, audit_job, audit_on, audit_output, audit_writes, worlds_source}
 use Rattle.conclave_top.specs.Due as dues
 use Rattle.conclave_top.specs.Job.{Compilation, Job, behind, only, refusal}
-use Rattle.conclave_top.specs.Lines.{not_built}
+use Rattle.conclave_top.specs.Lines.{disagree_line, not_built}
 use Rattle.conclave_top.specs.Plain.{answered, graph_files, job_for, tables_in}
-use Rattle.conclave_top.specs.Run.{over_tables_job, run_job, run_output, run_writes, with_bytes_job}
+use Rattle.conclave_top.specs.Question.{Question}
+use Rattle.conclave_top.specs.Run.{relation_source, run_job, run_on, run_output, run_writes}
+use Rattle.conclave_top.specs.Stages.{Source, files_job, over_tables_job, with_bytes_job}
 use Rattle.conclave_top.specs.Tape.{tape_job, tape_writes}
 use Rattle.conclave_top.specs.Tapes.{tape_names}
 
@@ -108,27 +112,43 @@ fair_for statuses files graph None zero two three due is =
 pub fair_printed : (statuses : List ℕ) (text : List ℕ) → Contains statuses 0 → AreFair statuses (only (dues.does [] [] text))
 fair_printed statuses text zero = fair_only statuses (dues.does [] [] text) (fair_done statuses [] [] text zero)
 
--- `tape` and `run` on a plan
+-- `tape`, `run` and `audit` on a plan
 pub fair_tape : (statuses : List ℕ) (seed : ℕ) (tapes : List ℕ) (plan : Plan) → Contains statuses 0 → AreFair statuses (tape_job seed tapes plan)
 fair_tape statuses seed tapes plan zero due is = subst (IsFair statuses []) (sym is.is) (fair_done statuses [] (tape_writes tapes is.draws) [] zero)
 
-fair_with_bytes : (statuses : List ℕ) (tapes : List ℕ) (plan : Plan) (tables : List table.Content) (bytes : Three (List ℕ)) → Contains statuses 0 → Contains statuses 4
-    → AreFairFor statuses [] (with_bytes_job tapes plan tables bytes)
-fair_with_bytes statuses tapes plan tables bytes zero four due (inl ran) =
-    subst (IsFair statuses []) (sym ran.is) (fair_done statuses [] (run_writes tapes plan tables ran.draws) (run_output plan tables) zero)
-fair_with_bytes statuses tapes plan tables bytes zero four due (inr unfit) = subst (IsFair statuses []) (sym unfit.is) (fair_unfit statuses [] unfit.line four)
+fair_with_bytes : (statuses : List ℕ) (tapes : List ℕ) (plan : Plan) (on : ThreeTapes → Job) (bytes : Three (List ℕ)) → Contains statuses 4 → ((draws : ThreeTapes) → AreFairFor statuses [] (on draws))
+    → AreFairFor statuses [] (with_bytes_job tapes plan on bytes)
+fair_with_bytes statuses tapes plan on bytes four fair due (inl here) = fair here.draws due here.is_due
+fair_with_bytes statuses tapes plan on bytes four fair due (inr unfit) = subst (IsFair statuses []) (sym unfit.is) (fair_unfit statuses [] unfit.line four)
 
 unread : (statuses : List ℕ) (tapes line : List ℕ) → Contains statuses 3 → IsFair statuses (tape_names tapes) (dues.stops Faulty [] line)
 unread statuses tapes line three =
     fair_stop statuses Faulty (tape_names tapes) [] line three (omega arith) (omega arith) (inr (record { left = tape_names tapes; front = refl; undone = λ zero. absurd (omega (arith, zero)) }))
 
-fair_over_tables : (statuses : List ℕ) (files : Option Files) (tapes : List ℕ) (plan : Plan) (answer : Result (List table.Content) (List ℕ))
-    → Contains statuses 0 → Contains statuses 3 → Contains statuses 4 → AreFairFor statuses (tape_names tapes) (over_tables_job files tapes plan answer)
-fair_over_tables statuses files tapes plan (Err line) zero three four due is = subst (IsFair statuses (tape_names tapes)) (sym is) (unread statuses tapes line three)
-fair_over_tables statuses files tapes plan (Ok tables) zero three four due is =
-    fair_behind statuses (tape_names tapes) [] (with_bytes_job tapes plan tables is.bytes) (fair_with_bytes statuses tapes plan tables is.bytes zero four) due is.is
+fair_over_tables : {T : Type 0} (statuses : List ℕ) (files : Option Files) (tapes : List ℕ) (plan : Plan) (on : T → ThreeTapes → Job) (answer : Result T (List ℕ)) → Contains statuses 3 → Contains statuses 4
+    → ((tables : T) (draws : ThreeTapes) → AreFairFor statuses [] (on tables draws)) → AreFairFor statuses (tape_names tapes) (over_tables_job files tapes plan on answer)
+fair_over_tables statuses files tapes plan on (Err line) three four fair due is = subst (IsFair statuses (tape_names tapes)) (sym is) (unread statuses tapes line three)
+fair_over_tables statuses files tapes plan on (Ok tables) three four fair due is =
+    fair_behind statuses (tape_names tapes) [] (with_bytes_job tapes plan (on tables) is.bytes) (fair_with_bytes statuses tapes plan (on tables) is.bytes four (fair tables)) due is.is
+
+fair_on_files : {T : Type 0} (statuses : List ℕ) (files : Option Files) (source : Source T) (tapes : List ℕ) (plan : Plan) (on : T → ThreeTapes → Job) → Contains statuses 3 → Contains statuses 4
+    → ((tables : T) (draws : ThreeTapes) → AreFairFor statuses [] (on tables draws)) → AreFair statuses (files_job files source tapes plan on)
+fair_on_files statuses files source tapes plan on three four fair due is =
+    fair_behind statuses source.names (tape_names tapes) (over_tables_job files tapes plan on (source.read is.bytes))
+    (fair_over_tables statuses files tapes plan on (source.read is.bytes) three four fair) due is.is
 
 pub fair_run : (statuses : List ℕ) (files : Option Files) (tapes : List ℕ) (plan : Plan) → Contains statuses 0 → Contains statuses 3 → Contains statuses 4 → AreFair statuses (run_job files tapes plan)
-fair_run statuses files tapes plan zero three four due is =
-    fair_behind statuses (graph_files plan.graph) (tape_names tapes) (over_tables_job files tapes plan (tables_in plan.graph is.bytes))
-    (fair_over_tables statuses files tapes plan (tables_in plan.graph is.bytes) zero three four) due is.is
+fair_run statuses files tapes plan zero three four =
+    fair_on_files statuses files (relation_source [] plan.graph) tapes plan (run_on tapes plan) three four
+    (λ tables draws due is. subst (IsFair statuses []) (sym is) (fair_done statuses [] (run_writes tapes plan tables draws) (run_output plan tables) zero))
+
+fair_audited : (statuses : List ℕ) (asked : Question) (plan : Plan) (worlds : Worlds) (draws : ThreeTapes) → Contains statuses 0 → Contains statuses 6 → AreFairFor statuses [] (audit_on asked plan worlds draws)
+fair_audited statuses asked plan worlds draws zero six due (inl twin) =
+    subst (IsFair statuses []) (sym twin.is) (fair_done statuses [] (audit_writes asked plan worlds draws) (audit_output asked plan worlds draws) zero)
+fair_audited statuses asked plan worlds draws zero six due (inr other) =
+    subst (IsFair statuses []) (sym other.is) (fair_stop statuses Disagree [] [] (disagree_line plan.graph.nodes other.differs) six (omega arith) (omega arith) (inl refl))
+
+pub fair_audit : (statuses : List ℕ) (files : Option Files) (asked : Question) (plan : Plan) → Contains statuses 0 → Contains statuses 3 → Contains statuses 4 → Contains statuses 6
+    → AreFair statuses (audit_job files asked plan)
+fair_audit statuses files asked plan zero three four six =
+    fair_on_files statuses files (worlds_source asked plan.graph) asked.tapes plan (audit_on asked plan) three four (λ worlds draws. fair_audited statuses asked plan worlds draws zero six)

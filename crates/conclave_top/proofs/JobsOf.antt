@@ -5,8 +5,9 @@ use Rattle.outside.specs.Folder.{Files}
 use Rattle.lowering.specs.Plan.{Plan}
 use Rattle.query_graph.specs.Content.{Content}
 use Rattle.tables.specs.Content as table
+use Rattle.conclave_top.specs.Audit.{audit_job}
 use Rattle.conclave_top.specs.Bounds.{first_bound}
-use Rattle.conclave_top.specs.Command.{Command, plain, plan, tape, run}
+use Rattle.conclave_top.specs.Command.{Command, plain, plan, tape, run, audit}
 use Rattle.conclave_top.specs.Compile.{graphs}
 use Rattle.conclave_top.specs.Due.{Due}
 use Rattle.conclave_top.specs.Job.{Compilation, Job, behind, refusal}
@@ -15,9 +16,10 @@ use Rattle.conclave_top.specs.Laws.{IsOnGraph}
 use Rattle.conclave_top.specs.Plain.{answered, graph_files, job_for, plain_job, tables_in}
 use Rattle.conclave_top.specs.Plans.{plans}
 use Rattle.conclave_top.specs.PlanText.{plan_job, plan_text}
+use Rattle.conclave_top.specs.Question.{Question}
 use Rattle.conclave_top.specs.Run.{run_job}
 use Rattle.conclave_top.specs.Tape.{tape_job}
-use Rattle.conclave_top.proofs.FairJobs.{AreFair, fair_behind, fair_for, fair_printed, fair_refusal, fair_run, fair_tape}
+use Rattle.conclave_top.proofs.FairJobs.{AreFair, fair_audit, fair_behind, fair_for, fair_printed, fair_refusal, fair_run, fair_tape}
 
 -- 0, a refusal's 2, 8 and 9 are listed for each command
 done_listed : (command : Command) → Contains (statuses_of command) 0
@@ -25,24 +27,28 @@ done_listed (plain query) = (0, omega arith, refl)
 done_listed (plan query) = (0, omega arith, refl)
 done_listed (tape query seed tapes) = (0, omega arith, refl)
 done_listed (run query tapes) = (0, omega arith, refl)
+done_listed (audit query asked) = (0, omega arith, refl)
 
 refused_listed : (command : Command) → Contains (statuses_of command) 2
 refused_listed (plain query) = (1, omega arith, refl)
 refused_listed (plan query) = (1, omega arith, refl)
 refused_listed (tape query seed tapes) = (1, omega arith, refl)
 refused_listed (run query tapes) = (1, omega arith, refl)
+refused_listed (audit query asked) = (1, omega arith, refl)
 
 pub failed_listed : (command : Command) → Contains (statuses_of command) 8
 failed_listed (plain query) = (3, omega arith, refl)
 failed_listed (plan query) = (2, omega arith, refl)
 failed_listed (tape query seed tapes) = (2, omega arith, refl)
 failed_listed (run query tapes) = (4, omega arith, refl)
+failed_listed (audit query asked) = (5, omega arith, refl)
 
 pub memory_listed : (command : Command) → Contains (statuses_of command) 9
 memory_listed (plain query) = (4, omega arith, refl)
 memory_listed (plan query) = (3, omega arith, refl)
 memory_listed (tape query seed tapes) = (3, omega arith, refl)
 memory_listed (run query tapes) = (5, omega arith, refl)
+memory_listed (audit query asked) = (6, omega arith, refl)
 
 -- a job on a plan has fair outcomes
 fair_plain : (files : Option Files) (query : List ℕ) (graph : Content) → AreFair (statuses_of (plain query)) (behind (query ∷ []) (plain_job files graph))
@@ -63,6 +69,11 @@ fair_ran : (files : Option Files) (query tapes : List ℕ) (on : Plan) → AreFa
 fair_ran files query tapes on =
     fair_behind (statuses_of (run query tapes)) (query ∷ []) (run_job files tapes on).reads (run_job files tapes on)
     (fair_run (statuses_of (run query tapes)) files tapes on (done_listed (run query tapes)) (2, omega arith, refl) (3, omega arith, refl))
+
+fair_audited : (files : Option Files) (query : List ℕ) (asked : Question) (on : Plan) → AreFair (statuses_of (audit query asked)) (behind (query ∷ []) (audit_job files asked on))
+fair_audited files query asked on =
+    fair_behind (statuses_of (audit query asked)) (query ∷ []) (audit_job files asked on).reads (audit_job files asked on)
+    (fair_audit (statuses_of (audit query asked)) files asked on (done_listed (audit query asked)) (2, omega arith, refl) (3, omega arith, refl) (4, omega arith, refl))
 
 -- and on a graph writes no file
 abbrev pub IsQuiet : Job → Type 0
@@ -147,6 +158,20 @@ job_of files (run query tapes) holds (inr on) = record {
   job = behind (query ∷ []) (run_job files tapes on.plan);
   within = λ other held. inr (record { plan = on.plan; text = on.text; held = on.held; gives = on.gives; job = held });
   fair = fair_ran files query tapes on.plan;
+  quiet = λ graph. absurd graph;
+  is = on.job;
+}
+job_of files (audit query asked) holds (inl is) = record {
+  job = refusal files query plans;
+  within = λ other held. inl held;
+  fair = fair_refusal (statuses_of (audit query asked)) files query plans (refused_listed (audit query asked));
+  quiet = λ on. absurd on;
+  is = is;
+}
+job_of files (audit query asked) holds (inr on) = record {
+  job = behind (query ∷ []) (audit_job files asked on.plan);
+  within = λ other held. inr (record { plan = on.plan; text = on.text; held = on.held; gives = on.gives; job = held });
+  fair = fair_audited files query asked on.plan;
   quiet = λ graph. absurd graph;
   is = on.job;
 }

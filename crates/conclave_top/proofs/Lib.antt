@@ -1,5 +1,6 @@
 pub mod Answered
 pub mod Answering
+pub mod AuditEnds
 pub mod Dues
 pub mod EachText
 pub mod Ends
@@ -26,10 +27,12 @@ pub mod RealFaults
 pub mod RefusedPlans
 pub mod RelationFiles
 pub mod Rest
-pub mod RunEnds
 pub mod SeededTapes
 pub mod SomeDues
+pub mod StageEnds
 pub mod TapeAnswers
+pub mod TwinTapes
+pub mod TwoWorlds
 pub mod Unwritten
 pub mod WithPlan
 pub mod WriteFiles

@@ -4,7 +4,7 @@ use Rattle.outside.specs.Folder.{Files}
 use Rattle.conclave_top.specs.declared.end.Cause.TheVariants.{Usage}
 use Rattle.conclave_top.specs.declared.end.End.{End}
 use Rattle.conclave_top.specs.declared.end.End.TheVariants as ends
-use Rattle.conclave_top.specs.Command.{Command, plain, plan, tape, run}
+use Rattle.conclave_top.specs.Command.{Command, plain, plan, tape, run, audit}
 use Rattle.conclave_top.specs.Due.{Due, status_of, usage}
 use Rattle.conclave_top.specs.Effect.{IsDone, IsLeft}
 use Rattle.conclave_top.specs.End.{Ended, HasResult}
@@ -26,6 +26,8 @@ has_job files (tape query seed tapes) part whole within (inl job) = inl (within 
 has_job files (tape query seed tapes) part whole within (inr on) = inr (record { plan = on.plan; text = on.text; held = on.held; gives = on.gives; job = within _ on.job })
 has_job files (run query tapes) part whole within (inl job) = inl (within _ job)
 has_job files (run query tapes) part whole within (inr on) = inr (record { plan = on.plan; text = on.text; held = on.held; gives = on.gives; job = within _ on.job })
+has_job files (audit query asked) part whole within (inl job) = inl (within _ job)
+has_job files (audit query asked) part whole within (inr on) = inr (record { plan = on.plan; text = on.text; held = on.held; gives = on.gives; job = within _ on.job })
 
 -- all that is due is done, and nothing is printed: memory is left behind it
 pub left_stopped : (job : Job) (due : Due) (old new : Ports) → job.due due → due.output ≡ [] → IsDone due old new → IsLeft job old new

@@ -1,11 +1,12 @@
 -- Parties and their numbers.
-use Rattle.std.proofs.Common.{◌≡◌, ◌∙◌, refl, ap, sym}
+use Rattle.std.proofs.Common.{◌≡◌, ◌∙◌, arith, refl, ap, sym}
 use Rattle.std.specs.Prelude.{IsTrue}
 use Rattle.lanes.specs.Party.{before, next, number_of}
 use Rattle.lanes.specs.Three.{at, each}
 use Rattle.lanes.specs.declared.party.Party.{Party}
 use Rattle.lanes.specs.declared.party.Party.TheVariants.{First, Second, Third}
 use Rattle.lanes.specs.declared.three.Three.{Three}
+use Rattle.query_text.specs.Parties.{IsParty}
 use Rattle.step_lists.specs.Layout.{party_of}
 use Rattle.step_lists.specs.Rules.{is_party}
 
@@ -39,3 +40,8 @@ pub at_each : {A B : Type 0} (f : A → B) (party : Party) (x : Three A) → at 
 at_each f First x = refl
 at_each f Second x = refl
 at_each f Third x = refl
+
+pub is_a_party : (party : Party) → IsParty (number_of party)
+is_a_party First = (omega arith, omega arith)
+is_a_party Second = (omega arith, omega arith)
+is_a_party Third = (omega arith, omega arith)

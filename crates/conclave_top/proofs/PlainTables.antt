@@ -73,11 +73,14 @@ or_left false b is = refl
 no_bound : (shape : Operator) → is_bounded shape ≡ false → at_most_of shape ≡ None
 no_bound shape is = not_written (at_most_of shape) (or_left (is_written (at_most_of shape)) (is_written (parts_at_most_of shape)) is)
 
+pub no_bound_at : (nodes : List Node) (number : ℕ) (node : Node) → first_bound nodes ≡ None → slice_get nodes number ≡ Some node → bound_of node.shape ≡ None
+no_bound_at nodes number node none here = no_bound node.shape (unbounded_at nodes number node none here)
+
 -- without a bound the tables end with the nodes
 all_nodes : (nodes : List Node) (rows : List (List (List ℕ))) (count : ℕ) (over : Option ℕ) → first_bound nodes ≡ None → Ends nodes rows count over → count ≡ length nodes
 all_nodes nodes rows count None none ends = ends
 all_nodes nodes rows count (Some o) none ends =
-    let within : is_over (bound_of ends.1.0.shape) (rows_of rows o) ≡ false = ap (λ b. is_over b (rows_of rows o)) (no_bound ends.1.0.shape (unbounded_at nodes o ends.1.0 none ends.1.1)) in
+    let within : is_over (bound_of ends.1.0.shape) (rows_of rows o) ≡ false = ap (λ b. is_over b (rows_of rows o)) (no_bound_at nodes o ends.1.0 none ends.1.1) in
     absurd (true_is_not_false (sym ends.1.2 ∙ within))
 
 meanings_count : (earlier files : List (List (List ℕ))) (nodes : List Node) → length (meanings_after earlier files nodes) ≡ length earlier + length nodes

@@ -8,15 +8,16 @@ use Rattle.query_graph.specs.Content.{Content}
 use Rattle.query_graph.specs.TextGraph.{HasGraph, TextsHaveGraphs}
 use Rattle.tables.specs.Content as table
 use Rattle.trust_sets.specs.declared.fault.TrustFault.{TrustFault}
+use Rattle.conclave_top.specs.Audit.{audit_job}
 use Rattle.conclave_top.specs.Bounds.{first_bound}
-use Rattle.conclave_top.specs.Command.{Command, plain, plan, tape, run}
+use Rattle.conclave_top.specs.Command.{Command, plain, plan, tape, run, audit}
 use Rattle.conclave_top.specs.Compile.{IsCompiled, graphs}
 use Rattle.conclave_top.specs.declared.end.Cause.TheVariants.{Faulty}
 use Rattle.conclave_top.specs.Due as dues
 use Rattle.conclave_top.specs.Job.{Compilation, HasPlan, HasQueryJob, Job, refusal}
 use Rattle.conclave_top.specs.Jobs.{HasJob, IsDue, query_of}
 use Rattle.conclave_top.specs.Laws.{Comes, HasJobOnPlan, IsBuilt, IsTaken, Keeps, OneJob, Run, TakenIsPlanned, told_files}
-use Rattle.conclave_top.specs.Lines.{trust_refused}
+use Rattle.lowering.specs.Lines.{trust_refused}
 use Rattle.conclave_top.specs.Outcome.{JobOutcome, Settles}
 use Rattle.conclave_top.specs.Outside.{Outside}
 use Rattle.conclave_top.specs.Plain.{answered, graph_files, job_for, plain_job, tables_in}
@@ -25,7 +26,7 @@ use Rattle.conclave_top.specs.PlanText.{plan_job}
 use Rattle.conclave_top.specs.Run.{run_job}
 use Rattle.conclave_top.specs.Tape.{tape_job}
 use Rattle.conclave_top.proofs.Dues.{not_compiled, same_text}
-use Rattle.conclave_top.proofs.OneJobs.{IsUnrefused, unrefused_behind, unrefused_ran, unrefused_taped, zero_two}
+use Rattle.conclave_top.proofs.OneJobs.{IsUnrefused, unrefused_audit, unrefused_behind, unrefused_ran, unrefused_taped, zero_two}
 use Rattle.conclave_top.proofs.RefusedPlans.{not_planned, same_of_some, unbounded}
 use Rattle.conclave_top.proofs.SomeDues.{faulty}
 
@@ -86,6 +87,9 @@ unrefused reading texts files (tape other seed tapes) query text due is held bui
 unrefused reading texts files (run other tapes) query text due is held built is_due two =
     unrefused_on files other text plans (run_job (Some files) tapes) (query_is files other query text is held)
     (λ line refused. not_planned texts text line refused built) (λ on gives. unrefused_ran (Some files) tapes on) due is_due two
+unrefused reading texts files (audit other asked) query text due is held built is_due two =
+    unrefused_on files other text plans (audit_job (Some files) asked) (query_is files other query text is held)
+    (λ line refused. not_planned texts text line refused built) (λ on gives. unrefused_audit (Some files) asked on) due is_due two
 
 -- a call on such a text was left before there was a plan, or has its job on one
 not_settled : {P : Type 0} (known : Option Files) (files : Files) (query text : List ℕ) (compilation : Compilation P) → known ≡ Some files → files query ≡ Some text
@@ -121,6 +125,9 @@ planned reading texts (tape other seed tapes) files query text old new status ha
     (λ line refused. not_planned texts text line refused taken) has
 planned reading texts (run other tapes) files query text old new status has told is held taken =
     planned_on files other text plans (run_job (told_files old) tapes) old new status told (query_is files other query text is held)
+    (λ line refused. not_planned texts text line refused taken) has
+planned reading texts (audit other asked) files query text old new status has told is held taken =
+    planned_on files other text plans (audit_job (told_files old) asked) old new status told (query_is files other query text is held)
     (λ line refused. not_planned texts text line refused taken) has
 
 pub taken_is_planned : HasOneReading → TextsHaveGraphs → OneJob → TakenIsPlanned

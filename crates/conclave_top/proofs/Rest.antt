@@ -3,9 +3,11 @@ use Rattle.std.proofs.Common.{◌≡◌, ℕ, false, List, [], ◌∷◌, ◌++�
 use Rattle.std.specs.List.{list_any}
 use Rattle.std.proofs.lemmas.List.{append-nil}
 use Rattle.outside.specs.Folder.{Files}
+use Rattle.lanes.specs.Party.{before}
 use Rattle.query_graph.specs.Content.{Content}
 use Rattle.query_graph.specs.TextGraph.{HasGraph, TextsHaveGraphs}
-use Rattle.conclave_top.specs.Command.{Command, run, tape, command_of}
+use Rattle.conclave_top.specs.Audit.{audit_job}
+use Rattle.conclave_top.specs.Command.{Command, audit, run, tape, command_of}
 use Rattle.conclave_top.specs.Due.{Due, names_of, usage}
 use Rattle.conclave_top.specs.Effect.{IsReading, IsWriting}
 use Rattle.conclave_top.specs.Job.{Job, behind, only, refusal}
@@ -13,7 +15,9 @@ use Rattle.conclave_top.specs.Jobs.{HasJob, statuses_of}
 use Rattle.conclave_top.specs.Laws.{CallsAreFronts, IsUnwritten, LeavesTheRest, ReadsComeFirst, WritesNothing, bytes_at, run_names, told_files}
 use Rattle.conclave_top.specs.Outcome.{JobOutcome, OutcomeOf}
 use Rattle.conclave_top.specs.Outside.{FolderState, Outside, gained}
+use Rattle.conclave_top.specs.PartyFiles.{twin_file}
 use Rattle.conclave_top.specs.Plans.{plans}
+use Rattle.conclave_top.specs.Question.{Question}
 use Rattle.conclave_top.specs.Run.{run_job}
 use Rattle.conclave_top.specs.Tape.{tape_job}
 use Rattle.conclave_top.specs.Tapes.{tape_names}
@@ -23,7 +27,7 @@ use Rattle.conclave_top.proofs.JobsOf.{IsQuiet, job_of}
 use Rattle.conclave_top.proofs.Keeping.{apart, fronts_for, gained_none, is_of, kept_none, none_tried, silent_for, undone_for, unprinted_for, unwritten_for}
 use Rattle.conclave_top.proofs.Outcomes.{has_job}
 use Rattle.conclave_top.proofs.Planned.{graph_on}
-use Rattle.conclave_top.proofs.Unwritten.{unwritten_behind, unwritten_ran, unwritten_refusal, unwritten_taped}
+use Rattle.conclave_top.proofs.Unwritten.{unwritten_audit, unwritten_behind, unwritten_ran, unwritten_refusal, unwritten_taped}
 
 -- the output
 unprinted_of : (command : Option Command) (old new : Outside) (status : ℕ) → OutcomeOf command old new status → (status ≡ 0 → ⊥) → new.ports.out.taken ≡ old.ports.out.taken
@@ -61,6 +65,15 @@ unran_for texts name query text tapes graph files old new status told held has n
     unwritten_for name (behind (query ∷ []) (run_job (told_files old) tapes on.plan)) old new status on.job
     (unwritten_behind name (query ∷ []) (run_job (told_files old) tapes on.plan)
     (unwritten_ran name (told_files old) tapes on.plan (subst (λ (g : Content). list_any (is_of name) (run_names tapes g) ≡ false) same none)))
+
+-- and of `audit` those that are no twin
+unaudited_for : (name query : List ℕ) (asked : Question) (old new : Outside) (status : ℕ) → is_of name (twin_file asked.tapes (before asked.party)) ≡ false
+    → HasJob (told_files old) (audit query asked) (λ job. JobOutcome job old new status) → bytes_at name (told_files new) ≡ bytes_at name (told_files old)
+unaudited_for name query asked old new status none (inl outcome) =
+    unwritten_for name (refusal (told_files old) query plans) old new status outcome (unwritten_refusal name (told_files old) query plans)
+unaudited_for name query asked old new status none (inr on) =
+    unwritten_for name (behind (query ∷ []) (audit_job (told_files old) asked on.plan)) old new status on.job
+    (unwritten_behind name (query ∷ []) (audit_job (told_files old) asked on.plan) (unwritten_audit name (told_files old) asked on.plan none))
 
 -- all files, where nothing is written
 nothing_first : {A : Type 0} (writes first more : List A) → writes ≡ first ++ more → writes ≡ [] → first ≡ []
@@ -132,6 +145,7 @@ leaves_the_rest texts = record {
   untaped = λ words query seed tapes old new status name call none. untaped_for name query tapes seed old new status none (outcome_of words (tape query seed tapes) old new status call);
   unran = λ words query text tapes graph files old new status name call told held has none.
       unran_for texts name query text tapes graph files old new status told held has none (outcome_of words (run query tapes) old new status call);
+  unaudited = λ words query asked old new status name call none. unaudited_for name query asked old new status none (outcome_of words (audit query asked) old new status call);
   kept = λ words old new status outcome none. kept_of (command_of words) old new status outcome none;
   undone = λ words old new status outcome zero eight nine. undone_of (command_of words) old new status outcome zero eight nine;
   uncalled = λ words old new status outcome none. uncalled_of (command_of words) old new status outcome none;

@@ -9,6 +9,7 @@ use Rattle.lanes.specs.declared.party.Party.{Party}
 use Rattle.lanes.specs.declared.party.Party.TheVariants.{First, Second, Third}
 use Rattle.lanes.specs.declared.three.Three.{Three}
 use Rattle.lowering.specs.Compiled.{IsPlanOf}
+use Rattle.lowering.specs.Isolated.{IsIsolated}
 use Rattle.lowering.specs.Plan.{Plan}
 use Rattle.plain_meaning.specs.Fits.{relations}
 use Rattle.query_text.specs.Laws.{HasOneReading}
@@ -20,6 +21,7 @@ use Rattle.query_graph.specs.TextGraph.{TextsHaveGraphs}
 use Rattle.query_graph.specs.declared.fault.GraphFault.{GraphFault}
 use Rattle.step_lists.specs.Draws.{ThreeTapes, schedule_of}
 use Rattle.tables.specs.Content as table
+use Rattle.tables.specs.File.{ReadTablesFit}
 use Rattle.tapes.specs.Laws.{BytesHaveAnswer, SeedsHaveTapes}
 use Rattle.tapes.specs.Made.{IsMadeTape}
 use Rattle.tapes.specs.ReadTape.{ReadsTape}
@@ -27,26 +29,32 @@ use Rattle.tapes.specs.declared.draw.Draw.{Draw}
 use Rattle.tapes.specs.declared.draw.Need.{Need}
 use Rattle.tapes.specs.declared.tape_bytes.TapeFault.{TapeFault}
 use Rattle.tapes.specs.declared.tape_bytes.TapeFault.TheVariants as faults
-use Rattle.conclave_top.specs.declared.end.Cause.TheVariants.{Faulty, Refused, Unfit}
+use Rattle.conclave_top.specs.declared.end.Cause.TheVariants.{Disagree, Faulty, Refused, Unfit}
+use Rattle.conclave_top.specs.Audit.{AgreeFor, Worlds, audit_job, audit_on, audit_output, audit_writes, inside, worlds_source}
 use Rattle.conclave_top.specs.Bounds.{first_bound}
-use Rattle.conclave_top.specs.Command.{Command, plain, plan, tape, run}
+use Rattle.conclave_top.specs.Command.{Command, plain, plan, tape, run, audit}
 use Rattle.conclave_top.specs.Compile.{IsCompiled, IsRefusedText, graph_refusal, graphs, refusal_of}
 use Rattle.conclave_top.specs.Due as dues
 use Rattle.conclave_top.specs.Job.{Compilation, HasQueryJob, Job}
 use Rattle.conclave_top.specs.Jobs.{IsDue, IsReady, query_of}
-use Rattle.conclave_top.specs.Laws.{IsDueWith, IsOnGraph, Refuses, SomeDue}
-use Rattle.conclave_top.specs.Lines.{graph_refused, not_built, tape_line, text_refused}
+use Rattle.conclave_top.specs.Laws.{HasWorlds, IsDueWith, IsOnGraph, Refuses, SomeDue, audit_reads}
+use Rattle.conclave_top.specs.Lines.{disagree_line, not_built, tape_line}
+use Rattle.lowering.specs.Lines.{graph_refused, text_refused}
 use Rattle.conclave_top.specs.PartyFiles.{of_parties, tape_file}
 use Rattle.conclave_top.specs.Plain.{answered, graph_files, job_for, plain_job, tables_in}
 use Rattle.conclave_top.specs.Plans.{plans}
 use Rattle.conclave_top.specs.PlanText.{plan_job, plan_text}
-use Rattle.conclave_top.specs.Relations.{AreBytes, file_of}
-use Rattle.conclave_top.specs.Run.{over_tables_job, run_job, run_output, run_writes, with_bytes_job}
+use Rattle.conclave_top.specs.Question.{Question}
+use Rattle.conclave_top.specs.Relations.{AreBytes, file_of, tables_of}
+use Rattle.conclave_top.specs.Run.{relation_source, run_job, run_on, run_output, run_writes}
+use Rattle.conclave_top.specs.Stages.{Source, files_job, over_tables_job, tapes_job, with_bytes_job}
 use Rattle.conclave_top.specs.Tape.{AreSeeded, tape_job}
 use Rattle.conclave_top.specs.Tapes.{AreSpelled, IsFaultyTape, IsTapeFault, Spells, tape_names}
+use Rattle.conclave_top.proofs.AuditEnds.{both_ok, equal_views, world_fits}
 use Rattle.conclave_top.proofs.EachText.{each_text}
 use Rattle.conclave_top.proofs.OneTapes.{three}
 use Rattle.conclave_top.proofs.RefusedPlans.{same_of_some}
+use Rattle.conclave_top.proofs.StageEnds.{spelled_fit}
 
 -- each text is refused or compiled
 each_graph : (statements : List Statement) (graph : Content) → graph_of statements ≡ Ok graph → (refusal : Option (List ℕ)) → graph_refusal graph ≡ refusal
@@ -111,6 +119,9 @@ refused_due files (tape other seed tapes) query text line is held refused =
 refused_due files (run other tapes) query text line is held refused =
     subst (λ q. HasQueryJob (Some files) q plans (run_job (Some files) tapes) (λ job. job.due (dues.stops Refused (query ∷ []) line))) (sym (same_of_some other query is))
     (due_refused files query text line plans (run_job (Some files) tapes) held refused)
+refused_due files (audit other asked) query text line is held refused =
+    subst (λ q. HasQueryJob (Some files) q plans (audit_job (Some files) asked) (λ job. job.due (dues.stops Refused (query ∷ []) line))) (sym (same_of_some other query is))
+    (due_refused files query text line plans (audit_job (Some files) asked) held refused)
 
 on_plan : (files : Files) (command : Command) (query text : List ℕ) (on : Plan) (due : dues.Due) → query_of command ≡ Some query → files query ≡ Some text → IsPlanOf text on
     → IsDueWith (Some files) on command due → IsDue (Some files) command (dues.behind (query ∷ []) due)
@@ -122,6 +133,9 @@ on_plan files (tape other seed tapes) query text on due is held gives is_due =
 on_plan files (run other tapes) query text on due is held gives is_due =
     subst (λ q. HasQueryJob (Some files) q plans (run_job (Some files) tapes) (λ job. job.due (dues.behind (query ∷ []) due))) (sym (same_of_some other query is))
     (due_on files query text plans (run_job (Some files) tapes) on due held gives is_due)
+on_plan files (audit other asked) query text on due is held gives is_due =
+    subst (λ q. HasQueryJob (Some files) q plans (audit_job (Some files) asked) (λ job. job.due (dues.behind (query ∷ []) due))) (sym (same_of_some other query is))
+    (due_on files query text plans (audit_job (Some files) asked) on due held gives is_due)
 
 -- on a plan: a seed's tapes
 seeded_by : (seed : ℕ) (on : Plan) (first second third : List Draw) → IsMadeTape seed 1 (at First (schedule_of on.list)) first → IsMadeTape seed 2 (at Second (schedule_of on.list)) second
@@ -137,40 +151,56 @@ seeded exist seed on =
     let third = exist seed 3 (at Third (schedule_of on.list)) in
     (three first.0 second.0 third.0, seeded_by seed on first.0 second.0 third.0 first.1 second.1 third.1)
 
--- or the run: a file that is no table, a tape that doesn't fit, views and answers
-due_over : (files : Files) (on : Plan) (tapes : List ℕ) (bytes : List (List ℕ)) (answer : Result (List table.Content) (List ℕ)) (own due : dues.Due) → map files (graph_files on.graph) ≡ map Some bytes
-    → tables_in on.graph bytes ≡ answer → (over_tables_job (Some files) tapes on answer).due own → due ≡ dues.behind (graph_files on.graph) own → (run_job (Some files) tapes on).due due
-due_over files on tapes bytes answer own due held read is_due is = record {
+-- or what is due over relations and tapes: a file that is no table, a tape that doesn't fit, what is due on the draws
+due_over : {T : Type 0} (files : Files) (source : Source T) (tapes : List ℕ) (made : Plan) (on : T → ThreeTapes → Job) (bytes : source.Bytes) (answer : Result T (List ℕ)) (own due : dues.Due)
+    → source.Hold (Some files) bytes → source.read bytes ≡ answer → (over_tables_job (Some files) tapes made on answer).due own → due ≡ dues.behind source.names own → (files_job (Some files) source tapes made on).due due
+due_over {T = T} files source tapes made on bytes answer own due held read is_due is = record {
   bytes = bytes;
-  are = are_bytes files on.graph bytes held;
-  is = record { own = own; is_due = subst (λ (a : Result (List table.Content) (List ℕ)). (over_tables_job (Some files) tapes on a).due own) (sym read) is_due; is = is };
+  are = held;
+  is = record { own = own; is_due = subst (λ (a : Result T (List ℕ)). (over_tables_job (Some files) tapes made on a).due own) (sym read) is_due; is = is };
 }
 
-due_on_tapes : (files : Files) (on : Plan) (tapes : List ℕ) (tables : List table.Content) (taped : Three (List ℕ)) (own : dues.Due)
-    → map files (tape_names tapes) ≡ map Some (of_parties (λ party. at party taped)) → (with_bytes_job tapes on tables taped).due own
-    → (over_tables_job (Some files) tapes on (Ok tables)).due (dues.behind (tape_names tapes) own)
-due_on_tapes files on tapes tables taped own held is_due = record { bytes = taped; are = held; is = record { own = own; is_due = is_due; is = refl } }
+due_on_tapes : (files : Files) (tapes : List ℕ) (made : Plan) (on : ThreeTapes → Job) (taped : Three (List ℕ)) (own : dues.Due)
+    → map files (tape_names tapes) ≡ map Some (of_parties (λ party. at party taped)) → (with_bytes_job tapes made on taped).due own → (tapes_job (Some files) tapes made on).due (dues.behind (tape_names tapes) own)
+due_on_tapes files tapes made on taped own held is_due = record { bytes = taped; are = held; is = record { own = own; is_due = is_due; is = refl } }
 
+faulty_on : {T : Type 0} (files : Files) (source : Source T) (tapes : List ℕ) (made : Plan) (on : T → ThreeTapes → Job) (bytes : source.Bytes) (line : List ℕ) → source.Hold (Some files) bytes → source.read bytes ≡ Err line
+    → (files_job (Some files) source tapes made on).due (dues.stops Faulty source.names line)
+faulty_on files source tapes made on bytes line held read =
+    due_over files source tapes made on bytes (Err line) (dues.stops Faulty [] line) (dues.stops Faulty source.names line) held read refl
+    (ap (λ ns. dues.stops Faulty ns line) (sym (append-nil source.names)))
+
+unfit_on : {T : Type 0} (files : Files) (source : Source T) (tapes : List ℕ) (made : Plan) (on : T → ThreeTapes → Job) (bytes : source.Bytes) (tables : T) (taped : Three (List ℕ)) (line : List ℕ) → source.Hold (Some files) bytes
+    → source.read bytes ≡ Ok tables → map files (tape_names tapes) ≡ map Some (of_parties (λ party. at party taped)) → IsTapeFault (schedule_of made.list) taped tapes line
+    → (files_job (Some files) source tapes made on).due (dues.stops Unfit (source.names ++ tape_names tapes) line)
+unfit_on files source tapes made on bytes tables taped line held read held_tapes fault =
+    due_over files source tapes made on bytes (Ok tables) (dues.behind (tape_names tapes) (dues.stops Unfit [] line)) (dues.stops Unfit (source.names ++ tape_names tapes) line) held read
+    (due_on_tapes files tapes made (on tables) taped (dues.stops Unfit [] line) held_tapes (inr (record { line = line; fault = fault; is = refl }))) refl
+
+due_on_draws : {T : Type 0} (files : Files) (source : Source T) (tapes : List ℕ) (made : Plan) (on : T → ThreeTapes → Job) (bytes : source.Bytes) (tables : T) (taped : Three (List ℕ)) (draws : ThreeTapes) (own : dues.Due)
+    → source.Hold (Some files) bytes → source.read bytes ≡ Ok tables → map files (tape_names tapes) ≡ map Some (of_parties (λ party. at party taped)) → AreSpelled (schedule_of made.list) taped draws
+    → (on tables draws).due own → (files_job (Some files) source tapes made on).due (dues.behind source.names (dues.behind (tape_names tapes) own))
+due_on_draws files source tapes made on bytes tables taped draws own held read held_tapes spelled is_due =
+    due_over files source tapes made on bytes (Ok tables) (dues.behind (tape_names tapes) own) (dues.behind source.names (dues.behind (tape_names tapes) own)) held read
+    (due_on_tapes files tapes made (on tables) taped own held_tapes (inl (record { draws = draws; spelled = spelled; is_due = is_due }))) refl
+
+-- of `run`
 pub faulty : (files : Files) (on : Plan) (tapes : List ℕ) (bytes : List (List ℕ)) (line : List ℕ) → map files (graph_files on.graph) ≡ map Some bytes → tables_in on.graph bytes ≡ Err line
     → (run_job (Some files) tapes on).due (dues.stops Faulty (graph_files on.graph) line)
-faulty files on tapes bytes line held read =
-    due_over files on tapes bytes (Err line) (dues.stops Faulty [] line) (dues.stops Faulty (graph_files on.graph) line) held read refl
-    (ap (λ ns. dues.stops Faulty ns line) (sym (append-nil (graph_files on.graph))))
+faulty files on tapes bytes line held read = faulty_on files (relation_source [] on.graph) tapes on (run_on tapes on) bytes line (are_bytes files on.graph bytes held) read
 
-unfit : (files : Files) (on : Plan) (tapes : List ℕ) (bytes : List (List ℕ)) (tables : List table.Content) (taped : Three (List ℕ)) (line : List ℕ) → map files (graph_files on.graph) ≡ map Some bytes
-    → tables_in on.graph bytes ≡ Ok tables → map files (tape_names tapes) ≡ map Some (of_parties (λ party. at party taped)) → IsTapeFault (schedule_of on.list) taped tapes line
-    → (run_job (Some files) tapes on).due (dues.stops Unfit (graph_files on.graph ++ tape_names tapes) line)
-unfit files on tapes bytes tables taped line held read held_tapes fault =
-    due_over files on tapes bytes (Ok tables) (dues.behind (tape_names tapes) (dues.stops Unfit [] line)) (dues.stops Unfit (graph_files on.graph ++ tape_names tapes) line) held read
-    (due_on_tapes files on tapes tables taped (dues.stops Unfit [] line) held_tapes (inr (record { line = line; fault = fault; is = refl }))) refl
-
-ran : (files : Files) (on : Plan) (tapes : List ℕ) (bytes : List (List ℕ)) (tables : List table.Content) (taped : Three (List ℕ)) (draws : ThreeTapes) → map files (graph_files on.graph) ≡ map Some bytes
-    → tables_in on.graph bytes ≡ Ok tables → map files (tape_names tapes) ≡ map Some (of_parties (λ party. at party taped)) → AreSpelled (schedule_of on.list) taped draws
-    → (run_job (Some files) tapes on).due (dues.does (graph_files on.graph ++ tape_names tapes) (run_writes tapes on tables draws) (run_output on tables))
-ran files on tapes bytes tables taped draws held read held_tapes spelled =
-    let own : dues.Due = dues.does [] (run_writes tapes on tables draws) (run_output on tables) in
-    due_over files on tapes bytes (Ok tables) (dues.behind (tape_names tapes) own) (dues.behind (graph_files on.graph) (dues.behind (tape_names tapes) own)) held read
-    (due_on_tapes files on tapes tables taped own held_tapes (inl (record { draws = draws; spelled = spelled; is = refl }))) refl
+-- of `audit`: nothing that an isolated plan sends the party is another in the second world
+audited : ReadTablesFit → (files : Files) (on : Plan) (asked : Question) (worlds : Worlds) (taped : Three (List ℕ)) (draws : ThreeTapes) → HasWorlds files on asked worlds
+    → map files (tape_names asked.tapes) ≡ map Some (of_parties (λ party. at party taped)) → AreSpelled (schedule_of on.list) taped draws → IsIsolated on → AgreeFor on asked.party worlds
+    → (audit_job (Some files) asked on).due (dues.does (audit_reads asked on) (audit_writes asked on worlds draws) (audit_output asked on worlds draws))
+audited fit files on asked worlds taped draws has held_tapes spelled isolated agree =
+    let bytes = has.bytes in
+    let read = both_ok (tables_of (inside asked.first) (relations on.graph.nodes) bytes.0) (tables_of (inside asked.second) (relations on.graph.nodes) bytes.1) worlds.0 worlds.1 has.read in
+    let first = world_fits fit (inside asked.first) on.graph bytes.0 worlds.0 has.held.0.count read.0 in
+    let second = world_fits fit (inside asked.second) on.graph bytes.1 worlds.1 has.held.1.count read.1 in
+    let equal = equal_views on asked.party worlds draws isolated first second agree (spelled_fit on taped draws spelled) in
+    due_on_draws files (worlds_source asked on.graph) asked.tapes on (audit_on asked on) bytes worlds taped draws (dues.does [] (audit_writes asked on worlds draws) (audit_output asked on worlds draws))
+    has.held has.read held_tapes spelled (inl (record { agree = agree; equal = equal; is = refl }))
 
 -- bytes spell a tape, or none
 abbrev pub HasTape : List Need → List ℕ → List ℕ → Party → Type 0
@@ -221,8 +251,8 @@ fit answers needs taped tapes small =
     (tape_or_fault (at Second needs) (at Second taped) tapes Second (of Second).0 (of Second).1.0 (of Second).1.1)
     (tape_or_fault (at Third needs) (at Third taped) tapes Third (of Third).0 (of Third).1.0 (of Third).1.1)
 
-pub some_due : HasOneReading → TextsHaveGraphs → SeedsHaveTapes → BytesHaveAnswer → SomeDue
-some_due reading texts exist answers = record {
+pub some_due : HasOneReading → TextsHaveGraphs → SeedsHaveTapes → BytesHaveAnswer → ReadTablesFit → SomeDue
+some_due reading texts exist answers tables = record {
   refused = λ files command query text line is held refused. refused_due files command query text line is held refused;
   planned = λ files query text graph held compiled. due_on files query text graphs plan_job graph (dues.does [] [] (plan_text graph)) held compiled refl;
   bounded = λ files query text graph line held compiled bound.
@@ -238,8 +268,18 @@ some_due reading texts exist answers = record {
   taped = λ files on query seed tapes draws seeds. record { draws = draws; seeded = seeds; is = refl };
   seeded = λ seed on. seeded exist seed on;
   faulty = λ files on query tapes bytes line held read. faulty files on tapes bytes line held read;
-  unfit = λ files on query tapes bytes tables taped line held read held_tapes fault. unfit files on tapes bytes tables taped line held read held_tapes fault;
-  ran = λ files on query tapes bytes tables taped draws held read held_tapes spelled. ran files on tapes bytes tables taped draws held read held_tapes spelled;
+  unfit = λ files on query tapes bytes tables taped line held read held_tapes fault.
+      unfit_on files (relation_source [] on.graph) tapes on (run_on tapes on) bytes tables taped line (are_bytes files on.graph bytes held) read held_tapes fault;
+  ran = λ files on query tapes bytes tables taped draws held read held_tapes spelled.
+      due_on_draws files (relation_source [] on.graph) tapes on (run_on tapes on) bytes tables taped draws (dues.does [] (run_writes tapes on tables draws) (run_output on tables))
+      (are_bytes files on.graph bytes held) read held_tapes spelled refl;
+  misread = λ files on query asked bytes line held read. faulty_on files (worlds_source asked on.graph) asked.tapes on (audit_on asked on) bytes line held read;
+  untold = λ files on query asked worlds taped line has held_tapes fault.
+      unfit_on files (worlds_source asked on.graph) asked.tapes on (audit_on asked on) has.bytes worlds taped line has.held has.read held_tapes fault;
+  audited = λ files on query asked worlds taped draws has held_tapes spelled isolated agree. audited tables files on asked worlds taped draws has held_tapes spelled isolated agree;
+  disagreed = λ files on query asked worlds taped draws differs has held_tapes spelled first.
+      due_on_draws files (worlds_source asked on.graph) asked.tapes on (audit_on asked on) has.bytes worlds taped draws (dues.stops Disagree [] (disagree_line on.graph.nodes differs))
+      has.held has.read held_tapes spelled (inr (record { differs = differs; first = first; is = refl }));
   fit = λ needs taped tapes small. fit answers needs taped tapes small;
 }
 
@@ -263,3 +303,4 @@ ready_due files (plain query) on ready = ready_on files query (plain_job (Some f
 ready_due files (plan query) on ready = ready_on files query plan_job (λ graph ready. (dues.does [] [] (plan_text graph), (refl, refl))) ready
 ready_due files (tape query seed tapes) on ready = absurd on
 ready_due files (run query tapes) on ready = absurd on
+ready_due files (audit query asked) on ready = absurd on

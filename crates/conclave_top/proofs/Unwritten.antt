@@ -1,9 +1,10 @@
--- The names that `tape` and `run` don't write.
-use Rattle.std.proofs.Common.{◌≡◌, ℕ, false, List, [], ◌∷◌, ◌++◌, map, Option, Some, None, Result, Ok, Err, inl, inr, ap, refl, ◌∙◌}
+-- The names that `tape`, `run` and `audit` don't write.
+use Rattle.std.proofs.Common.{◌≡◌, ℕ, Bool, false, ◌||◌, List, [], ◌∷◌, ◌++◌, map, Option, Some, None, Result, Ok, Err, inl, inr, ap, refl, ◌∙◌}
 use Rattle.std.specs.Prelude.{slice_get}
 use Rattle.std.specs.List.{flat_map, list_any}
 use Rattle.std.proofs.lemmas.List.{map-append}
 use Rattle.outside.specs.Folder.{Files}
+use Rattle.lanes.specs.Party.{before}
 use Rattle.lanes.specs.declared.party.Party.{Party}
 use Rattle.lanes.specs.declared.three.Three.{Three}
 use Rattle.lowering.specs.Plan.{Plan}
@@ -14,12 +15,14 @@ use Rattle.query_graph.specs.declared.node.Output.{Output}
 use Rattle.step_lists.specs.Draws.{ThreeTapes}
 use Rattle.tables.specs.Content as table
 use Rattle.conclave_top.specs.AnswerFiles.{answer_write, answers_at, answers_of, answers_to, recipients_of}
+use Rattle.conclave_top.specs.Audit.{Worlds, audit_job, audit_on, worlds_source}
 use Rattle.conclave_top.specs.Due.{Due, names_of}
 use Rattle.conclave_top.specs.Job.{Compilation, Job, behind, refusal}
 use Rattle.conclave_top.specs.Laws.{IsUnwritten, names_at, run_names}
-use Rattle.conclave_top.specs.PartyFiles.{answer_file, of_parties, view_file}
-use Rattle.conclave_top.specs.Plain.{graph_files, tables_in}
-use Rattle.conclave_top.specs.Run.{links_of, over_tables_job, run_job, run_writes, view_writes, with_bytes_job}
+use Rattle.conclave_top.specs.PartyFiles.{answer_file, of_parties, twin_file, view_file}
+use Rattle.conclave_top.specs.Question.{Question}
+use Rattle.conclave_top.specs.Run.{links_of, relation_source, run_job, run_on, run_writes, view_writes}
+use Rattle.conclave_top.specs.Stages.{Source, files_job, over_tables_job, with_bytes_job}
 use Rattle.conclave_top.specs.Tape.{tape_job}
 use Rattle.conclave_top.specs.Tapes.{tape_names}
 use Rattle.conclave_top.proofs.Keeping.{is_of, names_then}
@@ -57,19 +60,34 @@ names_of_run tapes on tables draws =
     names_then (view_writes tapes (links_of on tables draws)) (map answer_write (answers_of on.graph tables))
     ∙ ap (λ ns. of_parties (view_file tapes) ++ ns) (names_of_answers on.graph.nodes (meanings on.graph.nodes (rows_of_tables tables)) on.graph.outputs)
 
--- `run`
-unwritten_with_bytes : (name tapes : List ℕ) (on : Plan) (tables : List table.Content) (bytes : Three (List ℕ)) → list_any (is_of name) (run_names tapes on.graph) ≡ false
-    → IsUnwritten name (with_bytes_job tapes on tables bytes)
-unwritten_with_bytes name tapes on tables bytes none due (inl ran) =
-    ap (λ (d : Due). list_any (is_of name) (names_of d.writes)) ran.is ∙ ap (list_any (is_of name)) (names_of_run tapes on tables ran.draws) ∙ none
-unwritten_with_bytes name tapes on tables bytes none due (inr unfit) = ap (λ (d : Due). list_any (is_of name) (names_of d.writes)) unfit.is
+-- a command that reads relations and tapes
+unwritten_with_bytes : (name tapes : List ℕ) (plan : Plan) (on : ThreeTapes → Job) (bytes : Three (List ℕ)) → ((draws : ThreeTapes) → IsUnwritten name (on draws)) → IsUnwritten name (with_bytes_job tapes plan on bytes)
+unwritten_with_bytes name tapes plan on bytes unwritten due (inl here) = unwritten here.draws due here.is_due
+unwritten_with_bytes name tapes plan on bytes unwritten due (inr unfit) = ap (λ (d : Due). list_any (is_of name) (names_of d.writes)) unfit.is
 
-unwritten_over_tables : (name : List ℕ) (files : Option Files) (tapes : List ℕ) (on : Plan) (answer : Result (List table.Content) (List ℕ)) → list_any (is_of name) (run_names tapes on.graph) ≡ false
-    → IsUnwritten name (over_tables_job files tapes on answer)
-unwritten_over_tables name files tapes on (Err line) none due is = ap (λ (d : Due). list_any (is_of name) (names_of d.writes)) is
-unwritten_over_tables name files tapes on (Ok tables) none due is =
-    unwritten_behind name (tape_names tapes) (with_bytes_job tapes on tables is.bytes) (unwritten_with_bytes name tapes on tables is.bytes none) due is.is
+unwritten_over_tables : {T : Type 0} (name : List ℕ) (files : Option Files) (tapes : List ℕ) (plan : Plan) (on : T → ThreeTapes → Job) (answer : Result T (List ℕ))
+    → ((tables : T) (draws : ThreeTapes) → IsUnwritten name (on tables draws)) → IsUnwritten name (over_tables_job files tapes plan on answer)
+unwritten_over_tables name files tapes plan on (Err line) unwritten due is = ap (λ (d : Due). list_any (is_of name) (names_of d.writes)) is
+unwritten_over_tables name files tapes plan on (Ok tables) unwritten due is =
+    unwritten_behind name (tape_names tapes) (with_bytes_job tapes plan (on tables) is.bytes) (unwritten_with_bytes name tapes plan (on tables) is.bytes (unwritten tables)) due is.is
 
+unwritten_on_files : {T : Type 0} (name : List ℕ) (files : Option Files) (source : Source T) (tapes : List ℕ) (plan : Plan) (on : T → ThreeTapes → Job) → ((tables : T) (draws : ThreeTapes) → IsUnwritten name (on tables draws))
+    → IsUnwritten name (files_job files source tapes plan on)
+unwritten_on_files name files source tapes plan on unwritten due is =
+    unwritten_behind name source.names (over_tables_job files tapes plan on (source.read is.bytes)) (unwritten_over_tables name files tapes plan on (source.read is.bytes) unwritten) due is.is
+
+-- `run` and `audit`
 pub unwritten_ran : (name : List ℕ) (files : Option Files) (tapes : List ℕ) (on : Plan) → list_any (is_of name) (run_names tapes on.graph) ≡ false → IsUnwritten name (run_job files tapes on)
-unwritten_ran name files tapes on none due is =
-    unwritten_behind name (graph_files on.graph) (over_tables_job files tapes on (tables_in on.graph is.bytes)) (unwritten_over_tables name files tapes on (tables_in on.graph is.bytes) none) due is.is
+unwritten_ran name files tapes on none =
+    unwritten_on_files name files (relation_source [] on.graph) tapes on (run_on tapes on)
+    (λ tables draws due is. ap (λ (d : Due). list_any (is_of name) (names_of d.writes)) is ∙ ap (list_any (is_of name)) (names_of_run tapes on tables draws) ∙ none)
+
+unwritten_audited : (name : List ℕ) (asked : Question) (plan : Plan) (worlds : Worlds) (draws : ThreeTapes) → is_of name (twin_file asked.tapes (before asked.party)) ≡ false
+    → IsUnwritten name (audit_on asked plan worlds draws)
+unwritten_audited name asked plan worlds draws none due (inl twin) =
+    ap (λ (d : Due). list_any (is_of name) (names_of d.writes)) twin.is ∙ ap (λ (b : Bool). b || false) none
+unwritten_audited name asked plan worlds draws none due (inr other) = ap (λ (d : Due). list_any (is_of name) (names_of d.writes)) other.is
+
+pub unwritten_audit : (name : List ℕ) (files : Option Files) (asked : Question) (on : Plan) → is_of name (twin_file asked.tapes (before asked.party)) ≡ false → IsUnwritten name (audit_job files asked on)
+unwritten_audit name files asked on none =
+    unwritten_on_files name files (worlds_source asked on.graph) asked.tapes on (audit_on asked on) (λ worlds draws. unwritten_audited name asked on worlds draws none)

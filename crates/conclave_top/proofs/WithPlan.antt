@@ -3,7 +3,7 @@ use Rattle.std.proofs.Common.{ℕ, Option, Some, None}
 use Rattle.outside.specs.Folder.{Files}
 use Rattle.lowering.specs.Plan.{Plan}
 use Rattle.conclave_top.specs.declared.end.End.{End}
-use Rattle.conclave_top.specs.Command.{Command, plain, plan, tape, run}
+use Rattle.conclave_top.specs.Command.{Command, plain, plan, tape, run, audit}
 use Rattle.conclave_top.specs.End.{Ended}
 use Rattle.conclave_top.specs.Finish.{IsFinished}
 use Rattle.conclave_top.specs.Job.{Job}
@@ -19,6 +19,7 @@ has_plan_job files on (Some (plain query)) part whole within job = job
 has_plan_job files on (Some (plan query)) part whole within job = job
 has_plan_job files on (Some (tape query seed tapes)) part whole within job = within _ job
 has_plan_job files on (Some (run query tapes)) part whole within job = within _ job
+has_plan_job files on (Some (audit query asked)) part whole within job = within _ job
 
 pub outcome_with : (files : Option Files) (on : Plan) (command : Option Command) (old new : Outside) (end : End) (status : ℕ) → HasPlanJob files on command (λ job. Ended job old.ports new.ports end)
     → IsFinished end old.err new.err status → HasPlanJob files on command (λ job. JobOutcome job old new status)

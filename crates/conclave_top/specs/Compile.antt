@@ -12,7 +12,7 @@ use Rattle.trust_sets.specs.Trust.{trust_of}
 use Rattle.conclave_top.specs.declared.end.Stop.{Stop}
 use Rattle.conclave_top.specs.declared.end.Stop.TheVariants.{Line, Memory}
 use Rattle.conclave_top.specs.Job.{Compilation}
-use Rattle.conclave_top.specs.Lines.{graph_refused, text_refused, trust_refused}
+use Rattle.lowering.specs.Lines.{graph_refused, text_refused, trust_refused}
 
 -- the line of the refusal of a graph, by trust or release
 abbrev pub graph_refusal : Content → Option (List ℕ)

@@ -1,7 +1,7 @@
 -- An outcome that is due for a command, as data.
 use Rattle.std.specs.Prelude.{ℕ, List, [], ◌++◌, map}
 use Rattle.conclave_top.specs.declared.end.Cause.{Cause}
-use Rattle.conclave_top.specs.declared.end.Cause.TheVariants.{Usage, Refused, Faulty, Unfit}
+use Rattle.conclave_top.specs.declared.end.Cause.TheVariants.{Usage, Refused, Faulty, Unfit, Disagree}
 use Rattle.conclave_top.specs.Lines.{usage_line}
 
 -- the status, the names that are read before it, the line that tells it, the files that are written, each name with its
@@ -19,6 +19,7 @@ status_of Usage = 1
 status_of Refused = 2
 status_of Faulty = 3
 status_of Unfit = 4
+status_of Disagree = 6
 
 -- behind these reads there is no result, and this line tells the cause
 abbrev pub stops : Cause → List (List ℕ) → List ℕ → Due

@@ -2,7 +2,8 @@
 use Rattle.std.specs.Prelude.{ℕ, List, [], ◌∷◌, Option, Some}
 use Rattle.outside.specs.Folder.{Files}
 use Rattle.conclave_top.specs.declared.end.End.{End}
-use Rattle.conclave_top.specs.Command.{Command, plain, plan, tape, run}
+use Rattle.conclave_top.specs.Audit.{audit_job}
+use Rattle.conclave_top.specs.Command.{Command, plain, plan, tape, run, audit}
 use Rattle.conclave_top.specs.Compile.{graphs}
 use Rattle.conclave_top.specs.Due.{Due}
 use Rattle.conclave_top.specs.End.{Ended}
@@ -20,6 +21,7 @@ HasJob files (plain query) holds = HasQueryJob files query graphs (plain_job fil
 HasJob files (plan query) holds = HasQueryJob files query graphs plan_job holds
 HasJob files (tape query seed tapes) holds = HasQueryJob files query plans (tape_job seed tapes) holds
 HasJob files (run query tapes) holds = HasQueryJob files query plans (run_job files tapes) holds
+HasJob files (audit query asked) holds = HasQueryJob files query plans (audit_job files asked) holds
 
 -- what is due for a command
 abbrev pub IsDue : Option Files → Command → Due → Type 0
@@ -39,6 +41,7 @@ query_of (plain query) = Some query
 query_of (plan query) = Some query
 query_of (tape query seed tapes) = Some query
 query_of (run query tapes) = Some query
+query_of (audit query asked) = Some query
 
 -- the statuses that a command can answer
 abbrev pub statuses_of : Command → List ℕ
@@ -46,3 +49,4 @@ statuses_of (plain query) = 0 ∷ 2 ∷ 3 ∷ 8 ∷ 9 ∷ []
 statuses_of (plan query) = 0 ∷ 2 ∷ 8 ∷ 9 ∷ []
 statuses_of (tape query seed tapes) = 0 ∷ 2 ∷ 8 ∷ 9 ∷ []
 statuses_of (run query tapes) = 0 ∷ 2 ∷ 3 ∷ 4 ∷ 8 ∷ 9 ∷ []
+statuses_of (audit query asked) = 0 ∷ 2 ∷ 3 ∷ 4 ∷ 6 ∷ 8 ∷ 9 ∷ []

@@ -1,10 +1,12 @@
 -- What an outcome says of a command line, in both directions.
 use Rattle.std.specs.Prelude.{◌≡◌, ◌<◌, ◌^◌, ℕ, List, [], ◌∷◌, ◌++◌, Option, Some, None, option_map, false, map, Ok, Err, ◌⊎◌, bytes_eq, slice_get, slice_index, ⊤}
 use Rattle.std.specs.List.{Contains, flat_map, list_any}
+use Rattle.lanes.specs.Party.{before}
 use Rattle.lanes.specs.Three.{at}
 use Rattle.lanes.specs.declared.party.Party.{Party}
 use Rattle.lanes.specs.declared.three.Three.{Three}
 use Rattle.lowering.specs.Compiled.{IsPlanOf}
+use Rattle.lowering.specs.Isolated.{IsIsolated}
 use Rattle.lowering.specs.Plan.{Plan}
 use Rattle.lowering.specs.Refusals.{IsAccepted}
 use Rattle.lowering.specs.Unbuilt.{unbuilt}
@@ -16,22 +18,25 @@ use Rattle.query_graph.specs.declared.node.Output.{Output}
 use Rattle.step_lists.specs.Draws.{ThreeTapes, schedule_of}
 use Rattle.tables.specs.Content as table
 use Rattle.tapes.specs.declared.draw.Need.{Need}
-use Rattle.conclave_top.specs.declared.end.Cause.TheVariants.{Faulty, Refused, Unfit}
+use Rattle.trust_sets.specs.declared.agreement.Differs.{Differs}
+use Rattle.conclave_top.specs.declared.end.Cause.TheVariants.{Disagree, Faulty, Refused, Unfit}
 use Rattle.conclave_top.specs.AnswerFiles.{recipients_of}
+use Rattle.conclave_top.specs.Audit.{AgreeFor, IsDifferenceFor, Worlds, audit_job, audit_output, audit_writes, worlds_source}
 use Rattle.conclave_top.specs.Bounds.{first_bound}
-use Rattle.conclave_top.specs.Command.{Command, plain, plan, tape, run, command_of}
+use Rattle.conclave_top.specs.Command.{Command, plain, plan, tape, run, audit, command_of}
 use Rattle.conclave_top.specs.Compile.{IsCompiled, IsRefusedText, graphs}
 use Rattle.conclave_top.specs.Due.{Due, behind, does, names_of, stops}
 use Rattle.conclave_top.specs.Effect.{Called}
 use Rattle.conclave_top.specs.Job.{HasPlan, Job}
 use Rattle.conclave_top.specs.Jobs.{HasJob, IsDue, IsReady, query_of, statuses_of}
-use Rattle.conclave_top.specs.Lines.{not_built}
+use Rattle.conclave_top.specs.Lines.{disagree_line, not_built}
 use Rattle.conclave_top.specs.Outcome.{JobOutcome, Outcome, Settles}
 use Rattle.conclave_top.specs.Outside.{Outside, HasFailed}
-use Rattle.conclave_top.specs.PartyFiles.{answer_file, of_parties, view_file}
+use Rattle.conclave_top.specs.PartyFiles.{answer_file, of_parties, twin_file, view_file}
 use Rattle.conclave_top.specs.Plain.{answered, graph_files, plain_job, tables_in}
 use Rattle.conclave_top.specs.Plans.{IsRefusedPlan, plans}
 use Rattle.conclave_top.specs.PlanText.{plan_job, plan_text}
+use Rattle.conclave_top.specs.Question.{Question}
 use Rattle.conclave_top.specs.Run.{run_job, run_output, run_writes}
 use Rattle.conclave_top.specs.Tape.{AreSeeded, tape_job, tape_writes}
 use Rattle.conclave_top.specs.Tapes.{AreSpelled, IsTapeFault, tape_names}
@@ -66,6 +71,7 @@ IsOnGraph (plain query) = ⊤
 IsOnGraph (plan query) = ⊤
 IsOnGraph (tape query seed tapes) = ⊥
 IsOnGraph (run query tapes) = ⊥
+IsOnGraph (audit query asked) = ⊥
 
 -- such a command, or a refusal: what is due hangs on no choice of a plan
 abbrev pub IsOfText : Command → Due → Type 0
@@ -83,6 +89,7 @@ IsTaken (plain query) text = (graph : Content) × IsCompiled text graph
 IsTaken (plan query) text = (graph : Content) × IsCompiled text graph
 IsTaken (tape query seed tapes) text = IsBuilt text
 IsTaken (run query tapes) text = IsBuilt text
+IsTaken (audit query asked) text = IsBuilt text
 
 -- or it does, with this line
 abbrev pub Refuses : Command → List ℕ → List ℕ → Type 0
@@ -90,6 +97,7 @@ Refuses (plain query) text line = IsRefusedText text line
 Refuses (plan query) text line = IsRefusedText text line
 Refuses (tape query seed tapes) text line = IsRefusedPlan text line
 Refuses (run query tapes) text line = IsRefusedPlan text line
+Refuses (audit query asked) text line = IsRefusedPlan text line
 
 -- this holds of a command's job on one plan of its query's text
 abbrev pub HasJobOnPlan : Option Files → Command → (Job → Type 0) → Type 0
@@ -97,6 +105,7 @@ HasJobOnPlan files (plain query) holds = HasPlan files query graphs (plain_job f
 HasJobOnPlan files (plan query) holds = HasPlan files query graphs plan_job holds
 HasJobOnPlan files (tape query seed tapes) holds = HasPlan files query plans (tape_job seed tapes) holds
 HasJobOnPlan files (run query tapes) holds = HasPlan files query plans (run_job files tapes) holds
+HasJobOnPlan files (audit query asked) holds = HasPlan files query plans (audit_job files asked) holds
 
 -- what is due for a command with a plan that is handed in
 abbrev pub IsDueWith : Option Files → Plan → Command → Due → Type 0
@@ -140,6 +149,16 @@ pub record Keeps (job : Job) (old new : Outside) (status : ℕ) : Type 0 where
   pub unprinted : (status ≡ 0 → ⊥) → new.ports.out.taken ≡ old.ports.out.taken
   pub silent : status ≡ 0 → new.err.taken ≡ old.err.taken
 
+-- a folder has the files of both worlds of an audit, and they are these tables
+pub record HasWorlds (files : Files) (on : Plan) (asked : Question) (worlds : Worlds) : Type 0 where
+  pub bytes : (worlds_source asked on.graph).Bytes
+  pub held : (worlds_source asked on.graph).Hold (Some files) bytes
+  pub read : (worlds_source asked on.graph).read bytes ≡ Ok worlds
+
+-- the names that it reads then
+abbrev pub audit_reads : Question → Plan → List (List ℕ)
+audit_reads asked on = (worlds_source asked on.graph).names ++ tape_names asked.tapes
+
 -- over a folder that tells its files one outcome at most is due: for a job; and for a command, where its query is refused
 -- or it works by the graph. Where a job is ready that is its result
 pub record OneDue : Type 0 where
@@ -148,7 +167,8 @@ pub record OneDue : Type 0 where
   pub when_ready : (files : Files) (command : Command) (due : Due) → HasJob (Some files) command (λ job. job.ready × job.due due) → due.status ≡ 0
 
 -- and one is due where the query's file is there and it is refused; where it is compiled and for `plain` has a bound or
--- all its relations' files are there; and on a plan for `tape`, and for `run` where its files and tapes are there
+-- all its relations' files are there; and on a plan for `tape`, and for `run` and `audit` where its files and tapes are
+-- there
 pub record SomeDue : Type 0 where
   pub refused : (files : Files) (command : Command) (query text line : List ℕ) → query_of command ≡ Some query → files query ≡ Some text → Refuses command text line
       → IsDue (Some files) command (stops Refused (query ∷ []) line)
@@ -178,6 +198,18 @@ pub record SomeDue : Type 0 where
       → map files (graph_files on.graph) ≡ map Some bytes → tables_in on.graph bytes ≡ Ok tables → map files (tape_names tapes) ≡ map Some (of_parties (λ party. at party taped))
       → AreSpelled (schedule_of on.list) taped draws
       → IsDueWith (Some files) on (run query tapes) (does (graph_files on.graph ++ tape_names tapes) (run_writes tapes on tables draws) (run_output on tables))
+  -- of `audit` the same; over tapes that fit the twin where the worlds agree, and else the first part that differs
+  pub misread : (files : Files) (on : Plan) (query : List ℕ) (asked : Question) (bytes : (worlds_source asked on.graph).Bytes) (line : List ℕ) → (worlds_source asked on.graph).Hold (Some files) bytes
+      → (worlds_source asked on.graph).read bytes ≡ Err line → IsDueWith (Some files) on (audit query asked) (stops Faulty (worlds_source asked on.graph).names line)
+  pub untold : (files : Files) (on : Plan) (query : List ℕ) (asked : Question) (worlds : Worlds) (taped : Three (List ℕ)) (line : List ℕ)
+      → HasWorlds files on asked worlds → map files (tape_names asked.tapes) ≡ map Some (of_parties (λ party. at party taped))
+      → IsTapeFault (schedule_of on.list) taped asked.tapes line → IsDueWith (Some files) on (audit query asked) (stops Unfit (audit_reads asked on) line)
+  pub audited : (files : Files) (on : Plan) (query : List ℕ) (asked : Question) (worlds : Worlds) (taped : Three (List ℕ)) (draws : ThreeTapes)
+      → HasWorlds files on asked worlds → map files (tape_names asked.tapes) ≡ map Some (of_parties (λ party. at party taped)) → AreSpelled (schedule_of on.list) taped draws
+      → IsIsolated on → AgreeFor on asked.party worlds → IsDueWith (Some files) on (audit query asked) (does (audit_reads asked on) (audit_writes asked on worlds draws) (audit_output asked on worlds draws))
+  pub disagreed : (files : Files) (on : Plan) (query : List ℕ) (asked : Question) (worlds : Worlds) (taped : Three (List ℕ)) (draws : ThreeTapes) (differs : Differs)
+      → HasWorlds files on asked worlds → map files (tape_names asked.tapes) ≡ map Some (of_parties (λ party. at party taped)) → AreSpelled (schedule_of on.list) taped draws
+      → IsDifferenceFor on asked.party worlds (Some differs) → IsDueWith (Some files) on (audit query asked) (stops Disagree (audit_reads asked on) (disagree_line on.graph.nodes differs))
   -- bytes of three tapes fit, or a first one doesn't
   pub fit : (needs : Three (List Need)) (taped : Three (List ℕ)) (tapes : List ℕ) → ((party : Party) (k : ℕ) → slice_index (at party taped) k < 2 ^ 8)
       → ((draws : ThreeTapes) × AreSpelled needs taped draws) ⊎ ((line : List ℕ) × IsTapeFault needs taped tapes line)
@@ -255,6 +287,9 @@ pub record LeavesTheRest : Type 0 where
   pub unran : (words : List (List ℕ)) (query text tapes : List ℕ) (graph : Content) (files : Files) (old new : Outside) (status : ℕ) (name : List ℕ) → Run words (run query tapes) old new status
       → told_files old ≡ Some files → files query ≡ Some text → HasGraph text graph
       → list_any (λ written. bytes_eq written name) (run_names tapes graph) ≡ false → bytes_at name (told_files new) ≡ bytes_at name (told_files old)
+  -- of `audit` all but the twin
+  pub unaudited : (words : List (List ℕ)) (query : List ℕ) (asked : Question) (old new : Outside) (status : ℕ) (name : List ℕ) → Run words (audit query asked) old new status
+      → bytes_eq (twin_file asked.tapes (before asked.party)) name ≡ false → bytes_at name (told_files new) ≡ bytes_at name (told_files old)
   -- all files, where nothing is written, and where there is no result and nothing failed
   pub kept : (words : List (List ℕ)) (old new : Outside) (status : ℕ) → Outcome words old new status → WritesNothing (command_of words) → told_files new ≡ told_files old
   pub undone : (words : List (List ℕ)) (old new : Outside) (status : ℕ) → Outcome words old new status → (status ≡ 0 → ⊥) → (status ≡ 8 → ⊥) → (status ≡ 9 → ⊥) → told_files new ≡ told_files old
@@ -267,6 +302,7 @@ statuses_with (Some (plain query)) = []
 statuses_with (Some (plan query)) = []
 statuses_with (Some (tape query seed tapes)) = 0 ∷ 8 ∷ 9 ∷ []
 statuses_with (Some (run query tapes)) = 0 ∷ 3 ∷ 4 ∷ 8 ∷ 9 ∷ []
+statuses_with (Some (audit query asked)) = 0 ∷ 3 ∷ 4 ∷ 6 ∷ 8 ∷ 9 ∷ []
 
 -- the same of a call with a plan that is handed in: all of it holds on that plan, and no name is read before those of the
 -- job on it

@@ -1,6 +1,7 @@
 pub mod Added
 pub mod AnswerFiles
 pub mod Answers
+pub mod Audit
 pub mod Bounds
 pub mod Command
 pub mod Compile
@@ -19,8 +20,10 @@ pub mod PartyFiles
 pub mod Plain
 pub mod PlanText
 pub mod Plans
+pub mod Question
 pub mod Relations
 pub mod Run
+pub mod Stages
 pub mod Tape
 pub mod Tapes
 pub mod Views

@@ -14,9 +14,12 @@ of_parties f = f First ∷ f Second ∷ f Third ∷ []
 abbrev pub digit_of : Party → List ℕ
 digit_of party = digit (number_of party) ∷ []
 
--- the file of a tape, that of a party's view, and that of a node's answer to a party
+-- the file of a tape, that of its twin, that of a party's view, and that of a node's answer to a party
 abbrev pub tape_file : List ℕ → Party → List ℕ
 tape_file tapes party = tapes ++ (codes "." ++ digit_of party)
+
+abbrev pub twin_file : List ℕ → Party → List ℕ
+twin_file tapes party = tapes ++ (codes ".twin." ++ digit_of party)
 
 abbrev pub view_file : List ℕ → Party → List ℕ
 view_file tapes party = tapes ++ (codes ".view." ++ digit_of party)

@@ -15,7 +15,8 @@ use Rattle.trust_sets.specs.declared.known.Known.{Known}
 use Rattle.trust_sets.specs.Known.{column_set, known_at, known_nodes}
 use Rattle.conclave_top.specs.Due.{does}
 use Rattle.conclave_top.specs.Job.{Job, only}
-use Rattle.conclave_top.specs.Lines.{line_end, name_of_node}
+use Rattle.conclave_top.specs.Lines.{line_end}
+use Rattle.lowering.specs.Lines.{name_of_node}
 
 -- the parties of a set in rising order
 abbrev pub members : Parties → List ℕ

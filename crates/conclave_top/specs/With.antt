@@ -2,7 +2,8 @@
 use Rattle.std.specs.Prelude.{ℕ, List, Option, Some, None, ⊤}
 use Rattle.outside.specs.Folder.{Files}
 use Rattle.lowering.specs.Plan.{Plan}
-use Rattle.conclave_top.specs.Command.{Command, plain, plan, tape, run, command_of}
+use Rattle.conclave_top.specs.Audit.{audit_job}
+use Rattle.conclave_top.specs.Command.{Command, plain, plan, tape, run, audit, command_of}
 use Rattle.conclave_top.specs.Job.{Job}
 use Rattle.conclave_top.specs.Outcome.{JobOutcome}
 use Rattle.conclave_top.specs.Outside.{Outside}
@@ -16,6 +17,7 @@ HasPlanJob files on (Some (plain query)) holds = ⊥
 HasPlanJob files on (Some (plan query)) holds = ⊥
 HasPlanJob files on (Some (tape query seed tapes)) holds = holds (tape_job seed tapes on)
 HasPlanJob files on (Some (run query tapes)) holds = holds (run_job files tapes on)
+HasPlanJob files on (Some (audit query asked)) holds = holds (audit_job files asked on)
 
 -- the words are such a command
 abbrev pub TakesPlan : List (List ℕ) → Plan → Type 0

@@ -1,17 +1,19 @@
 //! The command line.
 
 ghost use Rattle.std.specs.Prelude.{◌≡◌, map, option_map, string_bytes};
-ghost use Rattle.conclave_top.specs.Command.{command_from, command_in, command_of, command_on, command_over, seed_of};
+ghost use Rattle.conclave_top.specs.Command.{command_between, command_from, command_in, command_of, command_on, command_over, party_named, seed_of};
 ghost use Rattle.conclave_top.specs.Jobs.{CommandEnded};
 ghost use Rattle.conclave_top.specs.Outcome.{Outcome};
 ghost use Rattle.conclave_top.specs.Outside.{outside_at, ports_at};
 
+use crate::audit::{Question, audit};
 use crate::end::End;
 use crate::finish::{finish, usage};
 use crate::plain::plain;
 use crate::plan::plan;
 use crate::run::run;
 use crate::tape::tape;
+use lanes::Party;
 use outside::{Folder, Sink};
 use std::alloc::Global;
 use words::read_num;
@@ -23,8 +25,11 @@ use words::read_num;
 /// and who gets its outputs. `tape Q SEED T` writes the tapes of the seed, 1 to 20 digits, for the query's plan to the
 /// files `T.1` to `T.3`. `run Q T` runs that plan with these tapes over the files of the folder: it writes what each party
 /// gets from the others to `T.view.1` to `T.view.3`, then each answer to a file, and prints a line for each answer.
+/// `audit Q PARTY A B T` takes the files in the folder A and those in B for two worlds that differ in nothing that the
+/// party 1, 2 or 3 may know, and writes the twin of the tape that it doesn't hold to `T.twin.J`, J that tape's number: with it
+/// in place of `T.J` the party gets in the second world the very words that it gets in the first; it prints how many.
 /// The statuses are 0 (done), 1 (the words are no listed form), 2 (the query is refused), 3 (a file is no table of its
-/// declaration), 4 (a tape isn't what the plan needs), 8 (the folder or the output failed) and 9 (no memory was left);
+/// declaration), 4 (a tape isn't what the plan needs), 6 (the two worlds differ in what the party may know), 8 (the folder or the output failed) and 9 (no memory was left);
 /// each but 0 comes with one line on the stream for errors. Own.
 pub fn conclave<F: Folder, O: Sink, E: Sink>(
     alloc: Global,
@@ -53,6 +58,7 @@ pub(crate) enum Form<'a> {
     Plan(&'a str),
     Tape(&'a str, u64, &'a str),
     Run(&'a str, &'a str),
+    Audit(&'a str, Question<'a>),
 }
 
 /// The form of a command line, where it has one.
@@ -67,6 +73,14 @@ pub(crate) fn form_of(words: &Vec<String>) -> Option<Form<'_>>
         [word, query, seed, tapes] if !query.is_empty() && !tapes.is_empty() => {
             form_from(word.as_str(), query.as_str(), seed.as_str(), tapes.as_str())
         }
+        [word, query, party, first, second, tapes] => form_between(
+            word.as_str(),
+            query.as_str(),
+            party.as_str(),
+            first.as_str(),
+            second.as_str(),
+            tapes.as_str(),
+        ),
         _ => None,
     }
 }
@@ -102,6 +116,46 @@ fn form_from<'a>(word: &str, query: &'a str, seed: &str, tapes: &'a str) -> Opti
     }
 }
 
+/// The form of a first word, the name of a query, a party, two folders and the name of tapes.
+fn form_between<'a>(
+    word: &str,
+    query: &'a str,
+    party: &str,
+    first: &'a str,
+    second: &'a str,
+    tapes: &'a str,
+) -> Option<Form<'a>>
+    ensures { option_map command_in result ≡ command_between word.now query.now party.now first.now second.now tapes.now }
+{
+    if query.is_empty() || first.is_empty() || second.is_empty() || tapes.is_empty() {
+        return None;
+    }
+    match word {
+        "audit" => Some(Form::Audit(
+            query,
+            Question {
+                party: party_named(party)?,
+                first,
+                second,
+                tapes,
+            },
+        )),
+        _ => None,
+    }
+}
+
+/// The party of a digit.
+fn party_named(digit: &str) -> Option<Party>
+    ensures { result ≡ party_named digit.now }
+{
+    match digit {
+        "1" => Some(Party::First),
+        "2" => Some(Party::Second),
+        "3" => Some(Party::Third),
+        _ => None,
+    }
+}
+
 /// The number of a seed, where it is 1 to 20 digits whose value fits a word.
 fn seed_of(digits: &str) -> Option<u64>
     ensures { result ≡ seed_of digits.now }
@@ -125,5 +179,6 @@ fn run_form<F: Folder, O: Sink>(alloc: Global, form: Form<'_>, files: &mut F, ou
         Form::Plan(query) => plan(alloc, query, files, out),
         Form::Tape(query, seed, tapes) => tape(alloc, query, seed, tapes, files, out),
         Form::Run(query, tapes) => run(alloc, query, tapes, files, out),
+        Form::Audit(query, asked) => audit(alloc, query, &asked, files, out),
     }
 }

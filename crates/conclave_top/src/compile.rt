@@ -7,7 +7,7 @@ ghost use Rattle.conclave_top.specs.Job.{refusal};
 ghost use Rattle.conclave_top.specs.Outside.{folder_at};
 
 use crate::end::{Cause, End, Stop};
-use crate::lines::{graph_refused, text_refused, trust_refused};
+use lowering::lines::{graph_refused, text_refused, trust_refused};
 use outside::{Folder, FolderFault};
 use query_graph::{Graph, GraphFault, build};
 use query_text::{Query, ReadFault, read_query};

@@ -17,6 +17,8 @@ pub(crate) enum Cause {
     Faulty,
     /// A tape's file isn't what the plan needs.
     Unfit,
+    /// Two worlds differ in what a party may know.
+    Disagree,
 }
 
 impl Cause {
@@ -29,6 +31,7 @@ impl Cause {
             Cause::Refused => 2,
             Cause::Faulty => 3,
             Cause::Unfit => 4,
+            Cause::Disagree => 6,
         }
     }
 }

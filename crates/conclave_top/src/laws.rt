@@ -4,7 +4,9 @@ ghost use Rattle.conclave_top.specs.Laws.{LeavesTheRest, OneDue, OneJob, ReadsCo
 
 use query_graph::texts_have_graphs;
 use query_text::one_reading;
+use tables::read_tables_fit;
 use tapes::{made_laws, read_laws};
+use trust_sets::differences_are_one;
 
 /// A law: over a folder that tells its files one outcome at most is due for a job, and for a command where its query is
 /// refused or it works by the graph; where a job is ready, that is its result.
@@ -14,10 +16,11 @@ pub fn one_due()
     one_reading();
     texts_have_graphs();
     made_laws();
+    differences_are_one();
 }
 
 /// A law: where an outcome is due: a refusal for each command, the results and faults of `plain` and `plan` on the query's
-/// graph, and those of `tape` and `run` on each plan of it.
+/// graph, and those of `tape`, `run` and `audit` on each plan of it.
 pub fn some_due()
     ensures { SomeDue }
 {
@@ -25,6 +28,7 @@ pub fn some_due()
     texts_have_graphs();
     made_laws();
     read_laws();
+    read_tables_fit();
 }
 
 /// A law: a call has one job, on one plan of its query's text or before there is one, and for it keeps to all of this:
@@ -81,4 +85,5 @@ pub fn with_a_plan()
     ensures { WithAPlan }
 {
     made_laws();
+    differences_are_one();
 }

@@ -1,8 +1,7 @@
 //! The commands of the program, over any folder and streams that are handed in.
 //!
-//! Stands on the query's crates, `plain_meaning`, `trust_sets`, `lowering`, `joint_machine`, `tapes`, `tables` and
-//! `outside`. The folder and the streams are
-//! seen as what they tell: files, calls, bytes, and counts of faults. The main promise stands on `conclave`: what each
+//! Stands on the query's crates, `plain_meaning`, `trust_sets`, `lowering`, `joint_machine`, `twin`, `tapes`, `tables` and
+//! `outside`. The folder and the streams are seen as what they tell: files, calls, bytes, and counts of faults. The main promise stands on `conclave`: what each
 //! status says of the words, the files, the names called and the bytes written. A command is a case of it: the jobs that
 //! it has on its query, each with what is due. The laws say that each status comes exactly where it is due, and what a
 //! run leaves as it was.
@@ -10,6 +9,7 @@
 
 mod answer_files;
 mod answers;
+mod audit;
 mod bounds;
 mod command;
 mod compile;
@@ -28,8 +28,10 @@ mod run;
 mod run_files;
 mod tape;
 mod tapes_of;
+mod twins;
 mod views;
 mod with;
+mod worlds;
 
 pub use command::conclave;
 pub use laws::{

@@ -2,7 +2,7 @@
 
 ghost use Rattle.std.specs.Prelude.{◌≡◌, IfOk, string_bytes};
 ghost use Rattle.std.specs.Str.{IsUtf8};
-ghost use Rattle.conclave_top.specs.PartyFiles.{answer_file, digit_of, tape_file, view_file};
+ghost use Rattle.conclave_top.specs.PartyFiles.{answer_file, digit_of, tape_file, twin_file, view_file};
 
 use lanes::Party;
 use query_graph::Node;
@@ -15,6 +15,14 @@ pub(crate) fn tape_file(alloc: Global, tapes: &str, party: Party) -> Result<Stri
 {
     let digit = digit_of(party);
     format!(in alloc; "{tapes}.{digit}")
+}
+
+/// The name of the file of a tape's twin.
+pub(crate) fn twin_file(alloc: Global, tapes: &str, party: Party) -> Result<String, AllocError>
+    ensures { IfOk result (λ name. string_bytes name ≡ twin_file tapes.now party) }
+{
+    let digit = digit_of(party);
+    format!(in alloc; "{tapes}.twin.{digit}")
 }
 
 /// The name of the file of a party's view.

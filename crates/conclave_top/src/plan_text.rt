@@ -6,7 +6,7 @@ ghost use Rattle.query_graph.specs.IsGraph.{rows_at};
 ghost use Rattle.trust_sets.specs.Known.{known_at};
 ghost use Rattle.conclave_top.specs.PlanText.{column_text, columns_text, node_line, node_lines, operator_word, output_line, plan_text, set_text};
 
-use crate::lines::name_of;
+use lowering::lines::name_of;
 use query_graph::{Graph, Node, Operator, Output, Parties};
 use std::alloc::{AllocError, Global};
 use trust_sets::{Trust, derive_trust};

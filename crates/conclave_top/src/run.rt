@@ -8,14 +8,13 @@ ghost use Rattle.plain_meaning.specs.Fits.{AreFiles, IsWorldOf, relations};
 ghost use Rattle.plain_meaning.specs.Plain.{rows_of_tables};
 ghost use Rattle.step_lists.specs.Possible.{TapesFit};
 ghost use Rattle.conclave_top.specs.Command.{run};
-ghost use Rattle.conclave_top.specs.Due.{does};
 ghost use Rattle.conclave_top.specs.End.{Ended};
-ghost use Rattle.conclave_top.specs.Job.{only};
 ghost use Rattle.conclave_top.specs.Jobs.{CommandEnded};
 ghost use Rattle.conclave_top.specs.Outside.{ports_at};
 ghost use Rattle.conclave_top.specs.Plain.{tables_in};
 ghost use Rattle.conclave_top.specs.Relations.{IsStored};
-ghost use Rattle.conclave_top.specs.Run.{over_tables_job, run_job, run_output, run_writes, tapes_job, with_bytes_job};
+ghost use Rattle.conclave_top.specs.Run.{run_job, run_on};
+ghost use Rattle.conclave_top.specs.Stages.{over_tables_job, tapes_job, with_bytes_job};
 
 use crate::deliver::deliver;
 use crate::end::{Cause, End};
@@ -84,7 +83,7 @@ fn over_files<F: Folder, O: Sink>(
     requires relations { map (λ node. node.now) nodes.now ≡ relations plan.now.graph.nodes }
     requires stored { All (λ node. IsStored node.now) nodes.now }
     requires as_many { length bytes.now ≡ length nodes.now }
-    ensures { Ended (over_tables_job (F.files files.old) tapes.now plan.now (tables_in plan.now.graph (map (λ b. b.items) bytes.now)))
+    ensures { Ended (over_tables_job (F.files files.old) tapes.now plan.now (run_on tapes.now plan.now) (tables_in plan.now.graph (map (λ b. b.items) bytes.now)))
         (ports_at F.Folder O.Sink files.old out.old) (ports_at F.Folder O.Sink files.new out.new) result }
 {
     // What is read fits, so the tables make a world.
@@ -106,7 +105,7 @@ fn over_tables<F: Folder, O: Sink>(
 ) -> End
     requires correct { IsCorrect plan.now }
     requires files { AreFiles plan.now.graph.nodes tables.items }
-    ensures { Ended (tapes_job (F.files files.old) tapes.now plan.now tables.items)
+    ensures { Ended (tapes_job (F.files files.old) tapes.now plan.now (run_on tapes.now plan.now tables.items))
         (ports_at F.Folder O.Sink files.old out.old) (ports_at F.Folder O.Sink files.new out.new) result }
 {
     let Ok(world) = World::new(plan.graph(), tables) else {
@@ -130,7 +129,7 @@ fn over_tapes<F: Folder, O: Sink>(
 ) -> End
     requires correct { IsCorrect plan.now }
     requires world { IsWorldOf plan.now.graph.nodes (rows_of_tables world.now) }
-    ensures { Ended (with_bytes_job name.now plan.now world.now (each (λ b. b.items) bytes.now))
+    ensures { Ended (with_bytes_job name.now plan.now (run_on name.now plan.now world.now) (each (λ b. b.items) bytes.now))
         (ports_at F.Folder O.Sink files.old out.old) (ports_at F.Folder O.Sink files.new out.new) result }
 {
     match tapes_of(alloc, plan, name, bytes) {
@@ -152,7 +151,7 @@ fn over_run<F: Folder, O: Sink>(
     requires correct { IsCorrect plan.now }
     requires world { IsWorldOf plan.now.graph.nodes (rows_of_tables world.now) }
     requires tapes { TapesFit plan.now.list (draws_of tapes.now) }
-    ensures { Ended (only (does [] (run_writes name.now plan.now world.now (draws_of tapes.now)) (run_output plan.now world.now)))
+    ensures { Ended (run_on name.now plan.now world.now (draws_of tapes.now))
         (ports_at F.Folder O.Sink files.old out.old) (ports_at F.Folder O.Sink files.new out.new) result }
 {
     let Ok(results) = results_of(alloc, plan, world, name, tapes) else {

@@ -94,7 +94,7 @@ fn run_plan(
 }
 
 /// The run of a list on its first slots, with tapes that fit.
-fn run_list(
+pub(crate) fn run_list(
     alloc: Global,
     list: &StepList<ClearTask>,
     slots: &Slots,

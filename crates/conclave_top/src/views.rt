@@ -22,7 +22,7 @@ pub(crate) fn view_bytes(alloc: Global, run: &JointRun, party: Party) -> Result<
 }
 
 /// The words that a party gets from another one.
-fn words_from(run: &JointRun, source: Party, target: Party) -> &Vec<u64>
+pub(crate) fn words_from(run: &JointRun, source: Party, target: Party) -> &Vec<u64>
     requires { source ≢ target }
     ensures { result.now.items ≡ link source target run.now.links }
 {

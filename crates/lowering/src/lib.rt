@@ -16,7 +16,7 @@ mod cost;
 mod fault;
 mod first;
 pub mod laws;
-mod lines;
+pub mod lines;
 mod loading;
 mod lower;
 mod open;

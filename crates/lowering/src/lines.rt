@@ -1,4 +1,4 @@
-//! The lines of refusals.
+//! The lines of refusals, for every command that compiles a query.
 
 ghost use Rattle.std.specs.Prelude.{◌≡◌, ◌++◌, IfOk, slice_get};
 ghost use Rattle.lowering.specs.Lines.{column_of_node, graph_refused, name_of_column, name_of_node, text_refused, trust_refused, unreleased, untrusted};
@@ -9,7 +9,7 @@ use trust_sets::TrustFault;
 use words::Column;
 
 /// The line of a text that stops being a query here.
-pub(crate) fn text_refused(alloc: Global, line: u32, column: u32) -> Result<Vec<u8>, AllocError>
+pub fn text_refused(alloc: Global, line: u32, column: u32) -> Result<Vec<u8>, AllocError>
     ensures { IfOk result (λ bytes. bytes.items ≡ text_refused line column) }
 {
     let text = format!(in alloc; "refused: Q1 line {line} column {column}: text\n")?;
@@ -17,7 +17,7 @@ pub(crate) fn text_refused(alloc: Global, line: u32, column: u32) -> Result<Vec<
 }
 
 /// The line of a rule that a query's graph breaks. For want of memory, which is no rule, it is empty.
-pub(crate) fn graph_refused(alloc: Global, fault: &GraphFault) -> Result<Vec<u8>, AllocError>
+pub fn graph_refused(alloc: Global, fault: &GraphFault) -> Result<Vec<u8>, AllocError>
     ensures { IfOk result (λ bytes. bytes.items ≡ graph_refused fault.now) }
 {
     let text = match fault {
@@ -39,7 +39,7 @@ pub(crate) fn graph_refused(alloc: Global, fault: &GraphFault) -> Result<Vec<u8>
 }
 
 /// The line of a statement that asks for more than trust or release allows.
-pub(crate) fn trust_refused(
+pub fn trust_refused(
     alloc: Global,
     nodes: &[Node],
     fault: &TrustFault,
@@ -98,7 +98,7 @@ fn unreleased(
 }
 
 /// The name of the node with this number.
-fn name_of(nodes: &[Node], number: u32) -> &[u8]
+pub fn name_of(nodes: &[Node], number: u32) -> &[u8]
     ensures { result.now ≡ name_of_node (slice_get nodes.now number) }
 {
     match nodes.get(number as usize) {
@@ -128,7 +128,7 @@ fn column_name(columns: &[Column], column: u32) -> &[u8]
 }
 
 /// Bytes between two texts.
-fn around(alloc: Global, before: &str, bytes: &[u8], after: &str) -> Result<Vec<u8>, AllocError>
+pub fn around(alloc: Global, before: &str, bytes: &[u8], after: &str) -> Result<Vec<u8>, AllocError>
     ensures { IfOk result (λ line. line.items ≡ before.now ++ (bytes.now ++ after.now)) }
 {
     let mut line = Vec::from_slice(alloc, before.as_bytes())?;

@@ -94,6 +94,16 @@ const NO_FORMS: &[&[&str]] = &[
     &["run", "q.txt", ""],
     &["run", "q.txt", "t", "123"],
     &["Run", "q.txt", "t"],
+    &["audit", "q.txt", "1", "a", "b"],
+    &["audit", "", "1", "a", "b", "t"],
+    &["audit", "q.txt", "0", "a", "b", "t"],
+    &["audit", "q.txt", "4", "a", "b", "t"],
+    &["audit", "q.txt", "12", "a", "b", "t"],
+    &["audit", "q.txt", "", "a", "b", "t"],
+    &["audit", "q.txt", "1", "", "b", "t"],
+    &["audit", "q.txt", "1", "a", "", "t"],
+    &["audit", "q.txt", "1", "a", "b", ""],
+    &["audit", "q.txt", "1", "a", "b", "t", "t"],
 ];
 
 // The first of the word lists that is told something else than the usage.

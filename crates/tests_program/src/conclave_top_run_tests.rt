@@ -2,6 +2,7 @@
 
 ghost use Rattle.std.specs.Prelude.{IfOk, map, string_bytes};
 ghost use Rattle.conclave_top.specs.With.{TakesPlan};
+ghost use Rattle.lowering.specs.Isolated.{IsIsolated};
 ghost use Rattle.lowering.specs.Plan.{IsCorrect, IsPlaced, Plan, ShowsAnswers};
 
 use crate::conclave_top_tests::{FAULT, PEOPLE, SCORES, SCORES2, SCORES3, folder_of};
@@ -281,9 +282,13 @@ fn first_other_refusal(alloc: Global, words: &[&str]) -> Result<Option<usize>, F
 }
 
 #[test]
-fn tape_and_run_refuse_the_same(rt: HostRuntime) -> Result<(), Fail> {
+fn tape_run_and_audit_refuse_the_same(rt: HostRuntime) -> Result<(), Fail> {
     assert_eq!(rt; first_other_refusal(rt.alloc(), TAPE)?, None);
     assert_eq!(rt; first_other_refusal(rt.alloc(), RUN)?, None);
+    assert_eq!(rt;
+        first_other_refusal(rt.alloc(), &["audit", "q.txt", "1", "a", "b", "t"])?,
+        None
+    );
     Ok(())
 }
 
@@ -303,6 +308,7 @@ fn run_with(alloc: Global, plan: &Plan, folder: &mut MemoryFolder) -> Result<Sai
     requires correct { IsCorrect plan.now }
     requires shows { ShowsAnswers plan.now }
     requires placed { IsPlaced plan.now }
+    requires isolated { IsIsolated plan.now }
 {
     let words = words_of_run(alloc)?;
     let mut out = MemorySink::new(alloc, Vec::new(alloc));

@@ -5,6 +5,8 @@
 #![tactic(auto)]
 
 #[cfg(test)]
+mod conclave_top_audit_tests;
+#[cfg(test)]
 mod conclave_top_fault_tests;
 #[cfg(test)]
 mod conclave_top_plan_tests;

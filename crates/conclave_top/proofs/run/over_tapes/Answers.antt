@@ -1,10 +1,11 @@
-use Rattle.std.proofs.Common.{rules, ◌≡◌}
+use Rattle.std.proofs.Common.{rules, ◌≡◌, refl}
 use Rattle.lanes.specs.Three.{each}
 use Rattle.joint_machine.specs.Left.{draws_of}
 use Rattle.conclave_top.specs.declared.end.Cause.TheVariants.{Unfit}
 use Rattle.conclave_top.specs.End.{end_of}
 use Rattle.conclave_top.specs.Outside.{ports_at}
-use Rattle.conclave_top.proofs.RunEnds.{run_end, spelled_fit, unfit_end}
+use Rattle.conclave_top.specs.Run.{run_on}
+use Rattle.conclave_top.proofs.StageEnds.{draws_end, spelled_fit, unfit_end}
 use Rattle.conclave_top.proofs.run.over_tapes.Goals as goal
 
 pub over_run-requires-clause-tapes : goal.over_run-requires-clause-tapes
@@ -12,10 +13,12 @@ over_run-requires-clause-tapes g c = spelled_fit c.args.plan.now (each (λ b. b.
 
 pub returns-in-Ok : goal.returns-in-Ok
 returns-in-Ok g c =
-    run_end c.args.name.now c.args.plan.now c.args.world.now (each (λ b. b.items) c.args.bytes.now) (draws_of c.in-Ok.tapes)
-    (ports_at g.F.Folder g.O.Sink c.args.files.now c.args.out.now) (ports_at g.F.Folder g.O.Sink c.over_run.new.files c.over_run.new.out) c.over_run.result c.in-Ok.ensures c.over_run.ensures
+    let on = run_on c.args.name.now c.args.plan.now c.args.world.now in
+    draws_end c.args.name.now c.args.plan.now on (each (λ b. b.items) c.args.bytes.now) (draws_of c.in-Ok.tapes)
+    (ports_at g.F.Folder g.O.Sink c.args.files.now c.args.out.now) (ports_at g.F.Folder g.O.Sink c.over_run.new.files c.over_run.new.out) c.over_run.result refl c.in-Ok.ensures c.over_run.ensures
 
 pub returns-in-Err : goal.returns-in-Err
 returns-in-Err g c =
+    let on = run_on c.args.name.now c.args.plan.now c.args.world.now in
     let same : c.end.result ≡ end_of Unfit c.in-Err.stop = search rules in
-    rw same (unfit_end c.args.name.now c.args.plan.now c.args.world.now (each (λ b. b.items) c.args.bytes.now) c.in-Err.stop (ports_at g.F.Folder g.O.Sink c.args.files.now c.args.out.now) c.in-Err.ensures)
+    rw same (unfit_end c.args.name.now c.args.plan.now on (each (λ b. b.items) c.args.bytes.now) c.in-Err.stop (ports_at g.F.Folder g.O.Sink c.args.files.now c.args.out.now) c.in-Err.ensures)
