@@ -1,5 +1,5 @@
 -- How many words a step takes in its stages: they are few, and they add up.
-use Rattle.std.proofs.Common.{◌≡◌, ℕ, zero, suc, ◌+◌, ◌*◌, ◌-◌, ◌^◌, ◌<◌, ◌≤◌, Bool, true, false, cond, List, [], ◌∷◌, ◌++◌, length, map, drop, refl, sym, ap, subst, ◌∙◌, arith, length-append, min}
+use Rattle.std.proofs.Common.{◌≡◌, ℕ, zero, suc, ◌+◌, ◌*◌, ◌-◌, ◌^◌, ◌<◌, ◌≤◌, Bool, true, false, cond, List, [], ◌∷◌, ◌++◌, length, map, drop, refl, subst, arith, length-append}
 use Rattle.std.specs.Prelude.{⊤, IsTrue, ◌&&◌, nat_lt, not, slice_index_or}
 use Rattle.std.proofs.lemmas.Bool.{ltb-true}
 use Rattle.std.proofs.lemmas.List.{length-map}
@@ -16,8 +16,7 @@ use Rattle.step_lists.specs.Layout.{Layout, party_of, grown, length_of}
 use Rattle.step_lists.specs.Rules.{fits_layout, is_fine, is_small}
 use Rattle.step_lists.specs.Seen.{same_party}
 use Rattle.step_lists.specs.Part.{count_from, stage_takes, takes_nothing, takes_from, when, phase_takes}
-use Rattle.party_core.specs.Holding.{rows_of, takes_by, takes_in_reveal, takes_in_steer}
-use Rattle.party_core.specs.Stages.{takes_at}
+use Rattle.party_core.specs.Holding.{rows_of, takes_by}
 use Rattle.party_core.proofs.Fine.{both}
 use Rattle.party_core.proofs.Progressing.{count_more, count_none}
 
@@ -117,7 +116,7 @@ sizes l h =
     slots x y z Second = y
     slots x y z Third = z
 
-at_put : {A : Type 0} (p : Party) (x : A) (t : Three A) → at p (put p x t) ≡ x
+pub at_put : {A : Type 0} (p : Party) (x : A) (t : Three A) → at p (put p x t) ≡ x
 at_put First x t = refl
 at_put Second x t = refl
 at_put Third x t = refl

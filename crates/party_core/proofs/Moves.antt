@@ -84,7 +84,7 @@ at_from Third n = refl
 module _ {T : Type 0} (accepts : T → List Shape → List Shape → Bool) (answer : T → List (List ℕ) → List (List ℕ)) where
   -- ---- a turn
 
-  filled_here : (c : CoreView T) (s : Step T) → IsReached accepts answer c → (y : Here accepts answer c s) → next_step c ≡ Some s → takes_none (takes_at c.party (layout_here c) s c.far.stages) ≡ true
+  pub filled_here : (c : CoreView T) (s : Step T) → IsReached accepts answer c → (y : Here accepts answer c s) → next_step c ≡ Some s → takes_none (takes_at c.party (layout_here c) s c.far.stages) ≡ true
       → Filled accepts answer c s (suc c.far.stages)
   filled_here c s h y e f = record {
     well_formed = h.well_formed;
@@ -218,16 +218,29 @@ module _ {T : Type 0} (accepts : T → List Shape → List Shape → Bool) (answ
     cut_more g Third h = same_given _ _ refl refl refl refl (both (at Third (taken_of c.party (layout_here c) s)) g.received.third (h Third))
 
   -- a core with more words, before it moves on
-  abbrev more : CoreView T → Party → List ℕ → CoreView T
+  abbrev pub more : CoreView T → Party → List ℕ → CoreView T
   more c q words = record c { given = with_words c.given q words }
 
-  same_so_far : (c : CoreView T) (q : Party) (words : List ℕ) → has_ended (part_so_far answer c) ≡ false → part_so_far answer (more c q words) ≡ part_so_far answer c
+  pub same_so_far : (c : CoreView T) (q : Party) (words : List ℕ) → has_ended (part_so_far answer c) ≡ false → part_so_far answer (more c q words) ≡ part_so_far answer c
   same_so_far c q words h = run_stays answer c.party (starting c.list.first) (part_before c.slots) (take c.far.steps c.list.steps) c.given q words h
 
-  same_here : (c : CoreView T) (q : Party) (words : List ℕ) → has_ended (part_so_far answer c) ≡ false → given_here (more c q words) ≡ with_words (given_here c) q words
+  pub same_here : (c : CoreView T) (q : Party) (words : List ℕ) → has_ended (part_so_far answer c) ≡ false → given_here (more c q words) ≡ with_words (given_here c) q words
   same_here c q words h = rest_stays answer c.party (starting c.list.first) (part_before c.slots) (take c.far.steps c.list.steps) c.given q words h
 
-  filled_more : (c : CoreView T) (s : Step T) (q n : ℕ) (words : List ℕ) → IsReached accepts answer c → Here accepts answer c s → next_step c ≡ Some s
+  -- these are the words of its stage
+  pub total_more : (c : CoreView T) (s : Step T) (q n : ℕ) (words : List ℕ) → Here accepts answer c s → WantsWords c.party (layout_here c) s c.far q n → length words ≡ n → (p : Party)
+      → length (at p (with_words c.given (party_of q) words).received)
+      ≡ at p (part_so_far answer (more c (party_of q) words)).taken + count_from p (take (suc c.far.stages) (stage_takes c.party (layout_here c) s))
+  total_more c s q n words y w long p =
+      let a = more_long c.given (party_of q) p words in
+      let t = y.total p in
+      let m = count_next p c.far.stages (stage_takes c.party (layout_here c) s) in
+      let from = ap (at p) (from_source c.party (layout_here c) s c.far.stages q n w.first) in
+      let k = ap (λ n. at p (takes_from (party_of q) n)) long in
+      let same = ap (λ a. at p a.taken) (same_so_far c (party_of q) words y.on) in
+      omega (arith, a, t, m, from, k, same)
+
+  pub filled_more : (c : CoreView T) (s : Step T) (q n : ℕ) (words : List ℕ) → IsReached accepts answer c → Here accepts answer c s → next_step c ≡ Some s
       → WantsWords c.party (layout_here c) s c.far q n → length words ≡ n → AreWords words
       → breaks_order_in (more c (party_of q) words) (next_step c) ≡ false
       → Filled accepts answer (more c (party_of q) words) s (suc c.far.stages)
@@ -242,14 +255,7 @@ module _ {T : Type 0} (accepts : T → List Shape → List Shape → Bool) (answ
     here = e;
     order = sym (ap (λ o. breaks_order_in (more c (party_of q) words) o) e) ∙ good;
     words = λ p. more_are_words c.given (party_of q) p words h.words below;
-    total = λ p.
-        let a = more_long c.given (party_of q) p words in
-        let t = y.total p in
-        let m = count_next p c.far.stages (stage_takes c.party (layout_here c) s) in
-        let from = ap (at p) (from_source c.party (layout_here c) s c.far.stages q n w.first) in
-        let k = ap (λ n. at p (takes_from (party_of q) n)) long in
-        let same = ap (λ a. at p a.taken) (same_so_far c (party_of q) words y.on) in
-        omega (arith, a, t, m, from, k, same);
+    total = total_more c s q n words y w long;
   }
 
   -- the step's words with these are no more than it takes

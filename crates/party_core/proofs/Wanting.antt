@@ -94,11 +94,12 @@ words_first t q n e = one (t.first == 0) refl e where
 pub record WantsWords {T : Type 0} (v : Party) (l : Layout) (s : Step T) (far : Far) (q n : ℕ) : Type 0 where
   pub ready : (far.turned || waits_at v s far.stages) ≡ true
   pub first : AreFirst (takes_at v l s far.stages) q n
+  pub words : words_or_turn (takes_at v l s far.stages) ≡ Words q n
 
 pub stage_words : {T : Type 0} (v : Party) (l : Layout) (s : Step T) (far : Far) (q n : ℕ) → stage_want v l s far ≡ Words q n → WantsWords v l s far q n
 stage_words v l s far q n e = by (far.turned || waits_at v s far.stages) refl e where
   by : (b : Bool) → (far.turned || waits_at v s far.stages) ≡ b → cond b (words_or_turn (takes_at v l s far.stages)) Turn ≡ Words q n → WantsWords v l s far q n
-  by true f e = record { ready = f; first = words_first (takes_at v l s far.stages) q n e }
+  by true f e = record { ready = f; first = words_first (takes_at v l s far.stages) q n e; words = e }
   by false f e = absurd (turn_words q n e)
 
 -- a stage wants a turn or words

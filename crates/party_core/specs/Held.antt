@@ -1,10 +1,13 @@
 -- What a core keeps beside its view: what its part has so far.
 use Rattle.std.specs.Prelude.{◌≡◌, ℕ, Bool, List, length, take}
 use Rattle.lanes.specs.declared.party.Party.{Party}
+use Rattle.lanes.specs.Party.{next}
 use Rattle.lanes.specs.Three.{at}
 use Rattle.step_lists.specs.declared.step.Shape.{Shape}
-use Rattle.step_lists.specs.Layout.{Steps}
+use Rattle.step_lists.specs.Draws.{needs}
+use Rattle.step_lists.specs.Layout.{Steps, starting}
 use Rattle.step_lists.specs.Part.{Given, Part}
+use Rattle.party_core.specs.declared.places.Places.{Places}
 use Rattle.party_core.specs.CoreView.{CoreView}
 use Rattle.party_core.specs.Core.{part_so_far}
 use Rattle.party_core.specs.Holding.{kept}
@@ -18,6 +21,13 @@ seen_of list v given slots steps stages turned =
 abbrev pub kept_of : Part → Part
 kept_of a = kept a.pairs a.slots a.flags a.stop
 
-pub record IsHeld {T : Type 0} (accepts : T → List Shape → List Shape → Bool) (answer : T → List (List ℕ) → List (List ℕ)) (c : CoreView T) (a : Part) : Type 0 where
+-- how much the steps that are done have used of the tapes and of the words that came
+pub record IsPlaced {T : Type 0} (answer : T → List (List ℕ) → List (List ℕ)) (c : CoreView T) (p : Places) : Type 0 where
+  pub own : p.own ≡ length (needs c.party (starting c.list.first) (take c.far.steps c.list.steps))
+  pub following : p.following ≡ length (needs (next c.party) (starting c.list.first) (take c.far.steps c.list.steps))
+  pub received : (q : Party) → at q p.received ≡ at q (part_so_far answer c).taken
+
+pub record IsHeld {T : Type 0} (accepts : T → List Shape → List Shape → Bool) (answer : T → List (List ℕ) → List (List ℕ)) (c : CoreView T) (a : Part) (p : Places) : Type 0 where
   pub reached : IsReached accepts answer c
   pub part : a ≡ kept_of (part_so_far answer c)
+  pub places : IsPlaced answer c p

@@ -8,3 +8,5 @@ pub mod MoveLaws
 pub mod Holding
 pub mod Held
 pub mod Calls
+pub mod Read
+pub mod Doing

@@ -1,8 +1,9 @@
-//! Why a core isn't made.
+//! Why a core isn't made, and why it doesn't take words.
 #![tactic(auto)]
 
 ghost use Rattle.std.specs.Prelude.{◌≡◌};
 ghost use Rattle.party_core.specs.declared.faults.CoreFault.TheVariants.{Memory};
+ghost use Rattle.party_core.specs.declared.faults.TakeFault.TheVariants as take_faults;
 
 use std::alloc::AllocError;
 use thiserror::Error;
@@ -27,5 +28,24 @@ impl From<AllocError> for CoreFault {
 
     fn from(_: AllocError) -> CoreFault {
         CoreFault::Memory
+    }
+}
+
+/// Why words aren't taken.
+#[derive(Clone, Copy, Debug, PartialEq, Eq, Error)]
+pub enum TakeFault {
+    /// They complete a private order that isn't one.
+    #[error("not an order")]
+    NotOrder,
+    /// There is not enough memory.
+    #[error("out of memory")]
+    Memory,
+}
+
+impl From<AllocError> for TakeFault {
+    ghost from_gives = { λ _ e. e ≡ take_faults.Memory };
+
+    fn from(_: AllocError) -> TakeFault {
+        TakeFault::Memory
     }
 }

@@ -1,7 +1,9 @@
 //! The laws of cores. Each function does nothing, and its contract is the law.
 ghost use Rattle.party_core.specs.Laws.{CoresAreParts};
 ghost use Rattle.party_core.specs.MoveLaws.{MovesKeep};
+ghost use Rattle.party_core.specs.Doing.{CoresAreReady};
 
+use lanes::{item_laws, lane_laws};
 use step_lists::Task;
 
 /// A core is the part of its party: where it wants words, the part on the words that came ends for want of them and has
@@ -16,3 +18,13 @@ pub fn core_laws<T: Task>()
 pub fn move_laws<T: Task>()
     ensures { MovesKeep T.accepts T.answer }
 {}
+
+/// What the moves of a core rest on: each move keeps what is told of it, and what it has fits its layout, so that it is
+/// ready for its next step.
+pub(crate) fn core_facts<T: Task>()
+    ensures moves { MovesKeep T.accepts T.answer }
+    ensures ready { CoresAreReady T.accepts T.answer }
+{
+    lane_laws();
+    item_laws();
+}

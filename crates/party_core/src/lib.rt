@@ -3,17 +3,33 @@
 #![tactic(auto)]
 
 mod checks;
+mod clear;
+mod draws;
 mod faults;
 mod laws;
+mod lists;
+mod local;
+mod masked;
 mod messages;
+mod moving;
+mod orders;
+mod outbox;
 mod pairs;
 mod party;
+mod phases;
+mod places;
+mod portion;
+mod reveal;
+mod sending;
 mod stages;
 mod state;
+mod steer;
+mod stepping;
 mod supply;
 mod want;
 
-pub use faults::CoreFault;
+pub use faults::{CoreFault, TakeFault};
 pub use laws::{core_laws, move_laws};
+pub use outbox::Outbox;
 pub use party::Core;
 pub use want::Want;

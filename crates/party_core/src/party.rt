@@ -1,28 +1,35 @@
 //! One party alone.
 #![tactic(auto)]
 
-ghost use Rattle.std.specs.Prelude.{◌≡◌, ◌-◌, ◌<◌, ◌≤◌, ◌^◌, Some, IsTrue, IfOk, IfErr, drop, length, min, slice_get};
+ghost use Rattle.std.specs.Prelude.{◌≡◌, ◌-◌, ◌<◌, ◌≤◌, ◌^◌, Some, false, IsTrue, IfOk, IfErr, OnOk, OnErr, drop, length, min, slice_get};
 ghost use Rattle.lanes.specs.Three.{at};
 ghost use Rattle.step_lists.specs.Layout.{party_of};
 ghost use Rattle.step_lists.specs.declared.step.Step.{Step};
 ghost use Rattle.step_lists.specs.Part.{count_from, stage_takes};
 ghost use Rattle.step_lists.specs.Rules.{is_party};
 ghost use Rattle.step_lists.specs.Shapes.{word_lists};
-ghost use Rattle.party_core.specs.CoreView.{fresh_core, next_step, layout_here};
-ghost use Rattle.party_core.specs.Core.{part_so_far, stage_want, want_of, left_of};
-ghost use Rattle.party_core.specs.Calls.{IsCoreFault};
+ghost use Rattle.party_core.specs.CoreView.{fresh_core, next_step, layout_here, turned_on, took};
+ghost use Rattle.party_core.specs.Core.{part_so_far, stage_want, want_of, left_of, turn_sends, breaks_order};
+ghost use Rattle.party_core.specs.Calls.{IsCoreFault, IsTakeFault, IsWanted, more_posted, posted, wanted_from};
+ghost use Rattle.party_core.specs.declared.want.Want.TheVariants.{Turn};
 ghost use Rattle.party_core.specs.Holding.{layout_at};
 ghost use Rattle.party_core.specs.Reached.{IsReached};
 ghost use Rattle.party_core.specs.Stages.{stages_behind, stage_count, takes_at};
 
 use crate::checks::{check_slots, check_tapes};
-use crate::faults::CoreFault;
-use crate::laws::move_laws;
-use crate::stages::{party_of, stage_count, step_rows, takes_at, waits_at, words_or_turn};
+use crate::faults::{CoreFault, TakeFault};
+use crate::laws::{core_facts, move_laws};
+use crate::outbox::Outbox;
+use crate::places::Places;
+use crate::sending::sends;
+use crate::stages::{
+    party_of, party_taken, stage_count, step_rows, takes_at, takes_none, waits_at, words_or_turn,
+};
 use crate::state::State;
 use crate::supply::Supply;
 use crate::want::Want;
 use lanes::{Party, Three};
+use std::alloc::AllocError;
 use std::marker::Model;
 use step_lists::{Step, StepList, Task, list_needs};
 use tapes::Tape;
@@ -36,6 +43,7 @@ pub struct Core<'a, T: Task> {
     // How many steps are done, and what the party has behind them.
     steps: usize,
     state: State,
+    places: Places,
     // How many stages of the next step are done, and whether the turn of the one after them was made.
     stages: usize,
     turned: bool,
@@ -49,7 +57,7 @@ impl<'a, T: Task> Model for Core<'a, T> {
 
     ghost view = { λ c. seen_of c.list.now c.party c.supply c.state.slots c.steps c.stages c.turned };
 
-    ghost invariant = { λ c. IsHeld T.accepts T.answer (seen_of c.list.now c.party c.supply c.state.slots c.steps c.stages c.turned) c.state };
+    ghost invariant = { λ c. IsHeld T.accepts T.answer (seen_of c.list.now c.party c.supply c.state.slots c.steps c.stages c.turned) c.state c.places };
 }
 
 // How many words of a party the step of a place takes from a stage on, or 2^128 - 1 where that is more.
@@ -126,6 +134,7 @@ impl<'a, T: Task> Core<'a, T> {
             supply: Supply::new(alloc, own, following),
             steps: 0,
             state: State::new(alloc, slots),
+            places: Places::start(),
             stages: 0,
             turned: false,
         })
@@ -187,6 +196,98 @@ impl<'a, T: Task> Core<'a, T> {
         let source = party_of(source);
         let left = left_behind(self.list, self.party, source, self.steps, self.stages);
         left.min(u64::MAX as u128) as u64
+    }
+
+    /// Makes a turn, which it wants: what is sent in it goes into the outbox, behind the words that lie there. After want
+    /// of memory the core and the outbox are as before.
+    pub fn turn(&mut self, outbox: &mut Outbox) -> Result<(), AllocError>
+        requires { want_of T.answer self.old ≡ Turn }
+        ensures moved { OnOk result (self.new ≡ turned_on self.old) }
+        ensures sent { OnOk result (posted outbox.new ≡ more_posted self.old.party (turn_sends T.answer self.old) (posted outbox.old)) }
+        ensures reached { IsReached T.accepts T.answer self.new }
+        ensures kept { OnErr result (self.new ≡ self.old) }
+        ensures kept_outbox { OnErr result (posted outbox.new ≡ posted outbox.old) }
+    {
+        core_facts::<T>();
+        let list = self.list;
+        let step = &list.steps()[self.steps];
+        let rows = step_rows(list, self.steps, step);
+        let alloc = self.supply.allocator();
+        let portion = self
+            .supply
+            .portion(alloc, &self.places, self.party, step, rows)?;
+        let more = sends(
+            alloc,
+            self.party,
+            step,
+            rows,
+            self.stages,
+            &self.state,
+            &portion,
+        )?;
+        let (next, previous) = (outbox.next.len(), outbox.previous.len());
+        outbox.post(&more)?;
+        if !takes_none(&takes_at(self.party, step, rows, self.stages)) {
+            self.turned = true;
+            return Ok(());
+        }
+        if self.stages + 1 < stage_count(step) {
+            self.stages += 1;
+            return Ok(());
+        }
+        if let Err(fault) = self.state.run_step(alloc, self.party, step, rows, &portion) {
+            outbox.cut(next, previous);
+            return Err(fault);
+        }
+        self.places = self
+            .supply
+            .places_behind(&self.places, self.party, step, rows);
+        self.steps += 1;
+        self.stages = 0;
+        Ok(())
+    }
+
+    /// Takes the words that it wants. NotOrder exactly where they complete a private order that isn't one, unless memory
+    /// is wanting before; after a fault the core is as before.
+    pub fn take(&mut self, words: &[u64]) -> Result<(), TakeFault>
+        requires { IsWanted (want_of T.answer self.old) words.now }
+        ensures took { OnOk result (self.new ≡ took self.old (wanted_from (want_of T.answer self.old)) words.now) }
+        ensures order { OnOk result (breaks_order self.old (wanted_from (want_of T.answer self.old)) words.now ≡ false) }
+        ensures fault { IfErr result (λ fault. IsTakeFault (breaks_order self.old (wanted_from (want_of T.answer self.old)) words.now) fault) }
+        ensures reached { IsReached T.accepts T.answer self.new }
+        ensures kept { OnErr result (self.new ≡ self.old) }
+    {
+        core_facts::<T>();
+        let list = self.list;
+        let step = &list.steps()[self.steps];
+        let rows = step_rows(list, self.steps, step);
+        let source = party_taken(&takes_at(self.party, step, rows, self.stages));
+        let count = self.supply.received(source).len();
+        self.supply.take(source, words)?;
+        let goes_on = self.stages + 1 < stage_count(step);
+        let taken = self.state.take_stage(
+            &self.supply,
+            &self.places,
+            self.party,
+            step,
+            rows,
+            goes_on,
+        );
+        if let Err(fault) = taken {
+            self.supply.cut(source, count);
+            return Err(fault);
+        }
+        self.turned = false;
+        if goes_on {
+            self.stages += 1;
+            return Ok(());
+        }
+        self.places = self
+            .supply
+            .places_behind(&self.places, self.party, step, rows);
+        self.steps += 1;
+        self.stages = 0;
+        Ok(())
     }
 
     /// Its slots.

@@ -7,9 +7,10 @@ ghost use Rattle.step_lists.specs.Layout.{party_of, length_of, words_in_slot, ro
 ghost use Rattle.step_lists.specs.Part.{phase_takes, takes_from, takes_nothing, when};
 ghost use Rattle.step_lists.specs.Rules.{is_register, is_slot, move_together};
 ghost use Rattle.step_lists.specs.Seen.{same_party};
+ghost use Rattle.party_core.specs.Calls.{wanted_from};
 ghost use Rattle.party_core.specs.Core.{words_or_turn};
 ghost use Rattle.party_core.specs.Holding.{rows_of, layout_at, takes_by, takes_in_reveal, takes_in_steer};
-ghost use Rattle.party_core.specs.Stages.{waits_at};
+ghost use Rattle.party_core.specs.Stages.{takes_none, waits_at};
 
 use crate::messages::same_party;
 use crate::want::Want;
@@ -334,5 +335,27 @@ pub(crate) fn words_or_turn(takes: &Three<u128>) -> Want
         }
     } else {
         Want::Turn
+    }
+}
+
+/// Whether no words are taken of any party.
+pub(crate) fn takes_none(takes: &Three<u128>) -> bool
+    ensures { result ≡ takes_none takes.now }
+{
+    takes.first == 0 && takes.second == 0 && takes.third == 0
+}
+
+/// The party of which words are taken, the first one where there are none.
+pub(crate) fn party_taken(takes: &Three<u128>) -> Party
+    ensures { result ≡ wanted_from (words_or_turn takes.now) }
+{
+    if takes.first != 0 {
+        Party::First
+    } else if takes.second != 0 {
+        Party::Second
+    } else if takes.third != 0 {
+        Party::Third
+    } else {
+        Party::First
     }
 }

@@ -1,7 +1,7 @@
 //! A core is made, and tells what it wants, what is left and its slots: on the list of one Share of a word by party 1.
 
 use clear_tasks::ClearTask;
-use party_core::{Core, CoreFault, Want};
+use party_core::{Core, CoreFault, Outbox, Want};
 use std::alloc::{AllocError, Global};
 use std::test::Fail;
 use step_lists::{ListFault, Step, StepList};
@@ -42,6 +42,43 @@ fn the_party_that_shares_has_a_turn(rt: HostRuntime) -> Result<(), Fail> {
     let core = Core::new(&list, 1, slots, own, following)?;
     assert!(rt; core.want() == Want::Turn && core.left(2) == 0 && core.left(3) == 0);
     assert!(rt; core.slots().len() == 1 && core.received(2).is_empty());
+    Ok(())
+}
+
+#[test]
+fn a_turn_sends_the_shared_word_to_both_others(rt: HostRuntime) -> Result<(), Fail> {
+    let list = one_share(&rt)?;
+    let slots = slots_of(rt.alloc(), &[&[5]])?;
+    let (own, following) = (tape_of(rt.alloc(), &[3])?, tape_of(rt.alloc(), &[9])?);
+    let mut core = Core::new(&list, 1, slots, own, following)?;
+    let mut outbox = Outbox {
+        next: Vec::new(rt.alloc()),
+        previous: Vec::new(rt.alloc()),
+    };
+    if core.want() == Want::Turn {
+        core.turn(&mut outbox)?;
+    }
+    assert!(rt; core.want() == Want::Done);
+    assert!(rt;
+        outbox.next.as_slice() == [15].as_slice() && outbox.previous.as_slice() == [15].as_slice()
+    );
+    Ok(())
+}
+
+#[test]
+fn the_word_that_is_waited_for_is_taken(rt: HostRuntime) -> Result<(), Fail> {
+    let list = one_share(&rt)?;
+    let slots = slots_of(rt.alloc(), &[])?;
+    let (own, following) = (tape_of(rt.alloc(), &[])?, tape_of(rt.alloc(), &[3])?);
+    let mut core = Core::new(&list, 3, slots, own, following)?;
+    let word = Want::Words {
+        source: 1,
+        count: 1,
+    };
+    if core.want() == word {
+        core.take(&[15])?;
+    }
+    assert!(rt; core.want() == Want::Done && core.received(1).as_slice() == [15].as_slice());
     Ok(())
 }
 

@@ -1,6 +1,6 @@
 -- Each move keeps a run one of its list, its slots and its tapes, and leaves one move less.
-use Rattle.std.proofs.Common.{◌≡◌, ℕ, suc, ◌+◌, ◌≤◌, Bool, true, false, Some, List, ◌++◌, length, take, refl, sym, ap, ◌∙◌, arith, inl, inr}
-use Rattle.std.specs.Prelude.{◌⊎◌, nat_le, slice_get, if◌then◌else◌}
+use Rattle.std.proofs.Common.{◌≡◌, ℕ, suc, ◌+◌, ◌≤◌, Bool, true, false, Some, List, ◌++◌, length, take, refl, sym, ap, ◌∙◌, arith}
+use Rattle.std.specs.Prelude.{nat_le, slice_get, if◌then◌else◌}
 use Rattle.std.proofs.lemmas.Bool.{leb-true}
 use Rattle.std.proofs.lemmas.List.{length-append, length-take-le}
 use Rattle.lanes.specs.declared.party.Party.{Party}
@@ -143,15 +143,3 @@ module _ {T : Type 0} (accepts : T → List Shape → List Shape → Bool) (answ
       enough false f m = absurd (waits_apart q m)
     by Done e m = absurd (ended_apart m)
     by (Stopped flag) e m = absurd (ended_apart m)
-
-  -- where no move is made nothing changes
-  pub moves_or_stays : (stepped answer v r ≡ Moved) ⊎ (moved answer v r ≡ r)
-  moves_or_stays = by (want_of answer c) where
-    by : (x : Want) → (stepped_by x v r ≡ Moved) ⊎ (moved_by answer x v r ≡ r)
-    by Turn = inl refl
-    by (Words q n) = enough (nat_le n (length (waiting_on (party_of q) v r))) where
-      enough : (b : Bool) → ((if b then Moved else Waits q) ≡ Moved) ⊎ ((if b then by_words v (party_of q) n r else r) ≡ r)
-      enough true = inl refl
-      enough false = inr refl
-    by Done = inr refl
-    by (Stopped flag) = inr refl

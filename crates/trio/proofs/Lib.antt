@@ -10,4 +10,8 @@ pub mod Few
 pub mod Honest
 pub mod Keeping
 pub mod Starting
+pub mod Rounds
 pub mod Whole
+pub mod Turned
+pub mod Standing
+pub mod Ended

@@ -1,3 +1,4 @@
 pub mod Running
 pub mod RunOf
 pub mod FewMoves
+pub mod Held

@@ -1,4 +1,4 @@
-use Rattle.std.proofs.Common.{IsTrue, sym, subst, ◌∙◌}
+use Rattle.std.proofs.Common.{IsTrue, sym, subst}
 use Rattle.step_lists.specs.Rules.{move_together}
 use Rattle.party_core.specs.Holding.{layout_at}
 use Rattle.party_core.proofs.Placed.{and_made, share_made, reveal_made, steer_made, tell_made}

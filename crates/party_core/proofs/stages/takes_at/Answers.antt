@@ -1,4 +1,4 @@
-use Rattle.std.proofs.Common.{◌≡◌, ◌*◌, length, slice_index_or, sym, ap, ◌∙◌}
+use Rattle.std.proofs.Common.{◌*◌, length, slice_index_or, sym, ap, ◌∙◌}
 use Rattle.step_lists.specs.Layout.{party_of}
 use Rattle.step_lists.specs.Part.{takes_nothing}
 use Rattle.party_core.specs.Holding.{takes_by, takes_in_reveal, takes_in_steer}

@@ -1,4 +1,4 @@
-use Rattle.std.proofs.Common.{◌≡◌, ◌<◌, ◌^◌, sym, subst, arith}
+use Rattle.std.proofs.Common.{sym, subst, arith}
 use Rattle.party_core.specs.Holding.{layout_at}
 use Rattle.party_core.proofs.Counting.{Few, few_taken}
 use Rattle.party_core.proofs.Placed.{fine_place}

@@ -1,0 +1,6 @@
+use Rattle.std.proofs.Common.{◌≡◌, ◌++◌, drop}
+use Rattle.step_lists.specs.Part.{pairs_before_j}
+use Rattle.party_core.proofs.phases.pairs_before_j.Given as goal
+
+abbrev pub invariant-loop-pair : goal.invariant-loop-pair
+invariant-loop-pair l = pairs_before_j l.order l.rows l.pairs l.fn.masks l.fn.got ≡ l.made.items ++ pairs_before_j l.order l.rows (drop l.pair-index l.pairs) l.masks l.got
